@@ -1,0 +1,9 @@
+pub mod Xor
+pub mod Linear
+pub mod Product
+pub mod Binary
+pub mod Inverses
+pub mod Fields
+pub mod Table
+pub mod Shift
+pub mod Products
