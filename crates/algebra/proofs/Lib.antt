@@ -1,0 +1,12 @@
+pub mod Arithmetic
+pub mod Outcome
+pub mod Entries
+pub mod Rows
+pub mod Echelon
+pub mod Column
+pub mod Shape
+pub mod Square
+pub mod StepList
+pub mod Bounded
+pub mod Numbers
+pub mod Factors

@@ -1,0 +1,9 @@
+pub mod Loops
+pub mod Pairs
+pub mod Each
+pub mod Rings
+pub mod Lengths
+pub mod Sums
+pub mod Flag
+pub mod Inverting
+pub mod Draws
