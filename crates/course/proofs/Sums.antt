@@ -1,0 +1,114 @@
+-- How long the step list is, how many nonzero draws it takes, and that no sum over it is large.
+-- Assumes nothing.
+use mathlib.Core.Bool.{true}
+use mathlib.Core.List.{List, [], _∷_, _++_}
+use mathlib.Core.Path.{_≡_, refl, ap}
+use Prim.Native.Nat.{ℕ, zero, suc, _≤_, _+_, _-_, _*_}
+use native.Mathlib.Omega.{arith}
+use native.Mathlib.Nat.{suc-mul, mul-suc, mul-add, mul-le-mul, mul-le-mul-right}
+use lib.ListN.{length, length-append}
+use Rattle.table.proofs.CostBounds.{mix-few, check-few, scale-few, clear-few, open-few}
+use Rattle.table.specs.Costs.{scaleNonzero}
+use Rattle.course.specs.declared.Step.{Step}
+use Rattle.course.specs.declared.Step.the-variants.{Mix, Check, Scale, Clear, Open}
+use Rattle.course.specs.declared.Order.{Order}
+use Rattle.course.specs.StepList.{Sizes, each, column, columns, openings, stepList, inList, columnsAt, maskCost, nonzeroCost, sumOver, fullMask, fullNonzero}
+use Rattle.course.proofs.Within.{within}
+use Rattle.course.proofs.Members.{AllIn, all-in}
+
+pub sum-append : (f : Step → ℕ) (a b : List Step) → sumOver f (a ++ b) ≡ sumOver f a + sumOver f b
+unfolding sumOver
+sum-append f [] b = omega arith
+sum-append f (s ∷ a) b = omega (arith, sum-append f a b)
+
+-- the length
+
+each-length : (f : ℕ → Step) (a n : ℕ) → length (each f a n) ≡ n
+unfolding each
+each-length f a zero = refl
+each-length f a (suc n) = ap suc (each-length f (a + 1) n)
+
+column-length : (m j d : ℕ) → j + d ≡ m → length (column m j) ≡ d + d + 2
+unfolding column
+column-length m j d e =
+    let x : m - j ≡ d = omega arith in
+    rw (length-append (each (Mix j) (j + 1) (m - j)) (Check j ∷ Scale j ∷ each (Clear j) (j + 1) (m - j)), each-length (Mix j) (j + 1) (m - j), each-length (Clear j) (j + 1) (m - j), x) (omega arith)
+
+columns-length : (m j n : ℕ) → j + n ≡ m + 1 → length (columns m j n) ≡ n * (n + 1)
+unfolding columns
+columns-length m j zero e = refl
+columns-length m j (suc n) e =
+    rw (length-append (column m j) (columns m (j + 1) n), column-length m j n (omega arith), columns-length m (j + 1) n (omega arith))
+    (omega (arith, suc-mul n (suc n + 1), mul-suc n (n + 1)))
+
+openings-length : (n : ℕ) → length (openings n) ≡ n
+unfolding openings
+openings-length zero = refl
+openings-length (suc n) = ap suc (openings-length n)
+
+-- m(m+2) steps
+pub list-length : (m : ℕ) → length (stepList m) ≡ m * (m + 2)
+unfolding stepList
+list-length m =
+    rw (length-append (columns m 1 m) (openings m), columns-length m 1 m (omega arith), openings-length m)
+    (omega (arith, mul-add m m 1, mul-add m m 2))
+
+pub list-small : (m : ℕ) → m ≤ 96 → length (stepList m) ≤ 9408
+list-small m h = rw (list-length m) (mul-le-mul {n₁ = m} {m₁ = m + 2} {n₂ = 96} {m₂ = 98} h (omega arith))
+
+-- the nonzero draws
+
+module _ (o : Order) where
+  each-none : (f : ℕ → Step) → ((k : ℕ) → nonzeroCost o (f k) ≡ 0) → (a n : ℕ) → sumOver (nonzeroCost o) (each f a n) ≡ 0
+  unfolding each sumOver
+  each-none f h a zero = refl
+  each-none f h a (suc n) = omega (arith, h a, each-none f h (a + 1) n)
+
+  openings-none : (n : ℕ) → sumOver (nonzeroCost o) (openings n) ≡ 0
+  unfolding openings sumOver nonzeroCost
+  openings-none zero = refl
+  openings-none (suc n) = omega (arith, openings-none n)
+
+  column-nonzero : (m j : ℕ) → sumOver (nonzeroCost o) (column m j) ≡ o .shares - 1
+  unfolding column sumOver nonzeroCost scaleNonzero
+  column-nonzero m j =
+      rw (sum-append (nonzeroCost o) (each (Mix j) (j + 1) (m - j)) (Check j ∷ Scale j ∷ each (Clear j) (j + 1) (m - j)))
+      (omega (arith, each-none (Mix j) (λ k. refl) (j + 1) (m - j), each-none (Clear j) (λ k. refl) (j + 1) (m - j)))
+
+  columns-nonzero : (m j n : ℕ) → sumOver (nonzeroCost o) (columns m j n) ≡ n * (o .shares - 1)
+  unfolding columns sumOver
+  columns-nonzero m j zero = omega arith
+  columns-nonzero m j (suc n) =
+      omega (arith, sum-append (nonzeroCost o) (column m j) (columns m (j + 1) n), column-nonzero m j, columns-nonzero m (j + 1) n, suc-mul n (o .shares - 1))
+
+  -- m(n-1) of them
+  pub nonzero-count : fullNonzero o ≡ o .size * (o .shares - 1)
+  unfolding stepList
+  nonzero-count =
+      omega (arith, sum-append (nonzeroCost o) (columns (o .size) 1 (o .size)) (openings (o .size)), columns-nonzero (o .size) 1 (o .size), openings-none (o .size))
+
+  pub nonzero-small : Sizes o → fullNonzero o ≤ 288
+  nonzero-small z =
+      omega (arith, nonzero-count, mul-le-mul {n₁ = o .size} {m₁ = o .shares - 1} {n₂ = 96} {m₂ = 3} (z .most) (omega arith))
+
+  -- the mask draws
+
+  pub cost-small : Sizes o → (s : Step) → inList (o .size) s ≡ true → maskCost o s ≤ 1179
+  unfolding maskCost
+  cost-small z (Mix j k) h = let w = within (o .size) (Mix j k) h in mix-few (o .field) (o .shares) (columnsAt o j) (z .four) (omega arith)
+  cost-small z (Check j) h = check-few (o .field) (o .shares) (z .four)
+  cost-small z (Scale j) h = let w = within (o .size) (Scale j) h in scale-few (o .shares) (columnsAt o j) (z .four) (omega arith)
+  cost-small z (Clear j k) h =
+      let w = within (o .size) (Clear j k) h in
+      omega (arith, clear-few (o .shares) (columnsAt o j) (z .four) (omega arith))
+  cost-small z (Open j) h = omega (arith, open-few (o .shares) (z .four))
+
+  sum-small : Sizes o → (l : List Step) → AllIn (o .size) l → sumOver (maskCost o) l ≤ length l * 1179
+  unfolding sumOver
+  sum-small z [] h = omega arith
+  sum-small z (s ∷ l) h = omega (arith, cost-small z s (h .0), sum-small z l (h .1), suc-mul (length l) 1179)
+
+  -- 9408 times 1179
+  pub mask-small : Sizes o → fullMask o ≤ 11092032
+  mask-small z =
+      omega (arith, sum-small z (stepList (o .size)) (all-in (o .size)), mul-le-mul-right 1179 (list-small (o .size) (z .most)))

@@ -1,0 +1,88 @@
+-- `course::place_after` meets its contract: each test is the definition's, and after the last Clear of a column, whose row is at most m, there is a next column.
+-- Assumes nothing.
+use native.Mathlib.Omega.{arith}
+use borrow.Author.Tests.{lt-ltb, le-ltb, eq-eqb, ne-eqb}
+use Rattle.course.specs.declared.Step.the-variants.{Clear}
+use Rattle.course.specs.Next.{after}
+use Rattle.course.proofs.Within.{within}
+use borrow.Author.Needs.{needs}
+use Rattle.course.proofs.place_after.Statement.{statement}
+use Rattle.course.proofs.place_after.Tie as tie
+
+enum-known-s : tie.Need-enum-known-s
+enum-known-s c = search needs
+
+add-t14 : tie.Need-add-t14
+add-t14 c = search needs
+
+enum-known-s-2 : tie.Need-enum-known-s-2
+enum-known-s-2 c = search needs
+
+enum-known-s-3 : tie.Need-enum-known-s-3
+enum-known-s-3 c = search needs
+
+add-t22 : tie.Need-add-t22
+add-t22 c = search needs
+
+enum-known-s-4 : tie.Need-enum-known-s-4
+enum-known-s-4 c = search needs
+
+add-t27 : tie.Need-add-t27
+add-t27 c = search needs
+
+add-first-of : tie.Need-add-first-of
+add-first-of c =
+    let w = within _ (Clear (c .before .before .s4 .given .0 .0) (c .before .before .s4 .given .0 .1 .0)) (rw (c .before .before .s4 .given .1) at (c .before .before .before .before .pre)) in
+    omega arith
+
+first-of-requires : tie.Need-first-of-requires
+first-of-requires c κs = search needs
+
+enum-known-s-5 : tie.Need-enum-known-s-5
+enum-known-s-5 c = search needs
+
+sub-t32 : tie.Need-sub-t32
+sub-t32 c = search needs
+
+returns : tie.Need-returns
+unfolding after
+returns c = simp (c .before .before .s .given .1, lt-ltb _ _ (c .if1 .taken))
+
+returns-2 : tie.Need-returns-2
+unfolding after
+returns-2 c = simp (c .before .before .s .given .1, le-ltb _ _ (c .if1 .left))
+
+returns-3 : tie.Need-returns-3
+unfolding after
+returns-3 c = simp (c .before .before .s2 .given .1, eq-eqb _ _ (c .if2 .taken))
+
+returns-4 : tie.Need-returns-4
+unfolding after
+returns-4 c = simp (c .before .before .s2 .given .1, ne-eqb _ _ (c .if2 .left))
+
+returns-5 : tie.Need-returns-5
+unfolding after
+returns-5 c = simp (c .before .before .s3 .given .1, lt-ltb _ _ (c .if3 .taken))
+
+returns-6 : tie.Need-returns-6
+unfolding after
+returns-6 c = simp (c .before .before .s3 .given .1, le-ltb _ _ (c .if3 .left))
+
+returns-7 : tie.Need-returns-7
+unfolding after
+returns-7 c = simp (c .before .before .s4 .given .1, lt-ltb _ _ (c .if4 .taken))
+
+returns-8 : tie.Need-returns-8
+unfolding after
+returns-8 c = simp (c .before .before .before .s4 .given .1, le-ltb _ _ (c .before .if4 .left)) (c .first-of .ensures)
+
+returns-9 : tie.Need-returns-9
+unfolding after
+returns-9 c = simp (c .before .before .s5 .given .1, lt-ltb _ _ (c .if5 .taken))
+
+returns-10 : tie.Need-returns-10
+unfolding after
+returns-10 c = simp (c .before .before .s5 .given .1, le-ltb _ _ (c .if5 .left))
+
+pub place-after-spec : {M : Type 1} → statement M
+place-after-spec = tie.close (tie.spec enum-known-s add-t14 enum-known-s-2 enum-known-s-3 add-t22 enum-known-s-4 add-t27 add-first-of first-of-requires enum-known-s-5 sub-t32 returns returns-2 returns-3 returns-4 returns-5 returns-6 returns-7 returns-8 returns-9 returns-10)

@@ -1,0 +1,2 @@
+pub mod StepList
+pub mod Next

@@ -1,0 +1,94 @@
+-- 01, "The step list": the list of a size, the draws of each step of it, and sums over lists of steps.
+-- Assumes nothing.
+use mathlib.Core.Bool.{Bool, true, false, _&&_}
+use mathlib.Core.List.{List, [], _∷_, _++_}
+use mathlib.Core.Logic.{_⊎_}
+use mathlib.Core.Path.{_≡_}
+use Prim.Native.Nat.{ℕ, zero, suc, _+_, _-_, _≤_}
+use lib.Dec.{eqb, ltb, leb}
+use lib.ListN.{length}
+use Rattle.table.specs.Layout.{columnsFrom}
+use Rattle.table.specs.Costs.{mixCost, checkCost, scaleCost, scaleNonzero, clearCost, openCost}
+use Rattle.course.specs.declared.Step.{Step}
+use Rattle.course.specs.declared.Step.the-variants.{Mix, Check, Scale, Clear, Open}
+use Rattle.course.specs.declared.Order.{Order}
+use Rattle.course.specs.declared.Counts.{Counts}
+
+-- the orders that are taken: F16 or F256, n shares (2 to 4), m equations in m unknowns (1 to 96)
+pub record Sizes (o : Order) : Type 0 where
+  pub field : (o .field ≡ 16) ⊎ (o .field ≡ 256)
+  pub two : 2 ≤ o .shares
+  pub four : o .shares ≤ 4
+  pub some : 1 ≤ o .size
+  pub most : o .size ≤ 96
+
+-- step a, step (a + 1), .., n of them
+unfoldable pub each : (ℕ → Step) → ℕ → ℕ → List Step
+each step a zero = []
+each step a (suc n) = step a ∷ each step (a + 1) n
+
+-- Mix(j,k) for k = j+1..m; Check(j); Scale(j); Clear(j,k) for k = j+1..m
+unfoldable pub column : ℕ → ℕ → List Step
+column m j = each (Mix j) (j + 1) (m - j) ++ (Check j ∷ Scale j ∷ each (Clear j) (j + 1) (m - j))
+
+-- n columns from j on
+unfoldable pub columns : ℕ → ℕ → ℕ → List Step
+columns m j zero = []
+columns m j (suc n) = column m j ++ columns m (j + 1) n
+
+-- Open(j) for j = n down to 1
+unfoldable pub openings : ℕ → List Step
+openings zero = []
+openings (suc n) = Open (suc n) ∷ openings n
+
+-- for j = 1..m the column's steps; then Open(j) for j = m down to 1
+unfoldable pub stepList : ℕ → List Step
+stepList m = columns m 1 m ++ openings m
+
+-- every step up to and including Check(j)
+unfoldable pub upTo : ℕ → ℕ → List Step
+upTo m j = columns m 1 (j - 1) ++ (each (Mix j) (j + 1) (m - j) ++ (Check j ∷ []))
+
+-- whether a step is one of the list: 1 ≤ j ≤ m, and j < k ≤ m where it has a k
+unfoldable pub inList : ℕ → Step → Bool
+inList m (Mix j k) = leb 1 j && (ltb j k && leb k m)
+inList m (Check j) = leb 1 j && leb j m
+inList m (Scale j) = leb 1 j && leb j m
+inList m (Clear j k) = leb 1 j && (ltb j k && leb k m)
+inList m (Open j) = leb 1 j && leb j m
+
+-- L = m+2-j, in a row of m+1 columns
+abbrev pub columnsAt : Order → ℕ → ℕ
+columnsAt o j = columnsFrom (o .size + 1) j
+
+-- the mask draws of a step
+unfoldable pub maskCost : Order → Step → ℕ
+maskCost o (Mix j k) = mixCost (o .field) (o .shares) (columnsAt o j)
+maskCost o (Check j) = checkCost (o .field) (o .shares)
+maskCost o (Scale j) = scaleCost (o .shares) (columnsAt o j)
+maskCost o (Clear j k) = clearCost (o .shares) (columnsAt o j)
+maskCost o (Open j) = openCost (o .shares)
+
+-- its nonzero draws
+unfoldable pub nonzeroCost : Order → Step → ℕ
+nonzeroCost o (Mix j k) = 0
+nonzeroCost o (Check j) = 0
+nonzeroCost o (Scale j) = scaleNonzero (o .shares)
+nonzeroCost o (Clear j k) = 0
+nonzeroCost o (Open j) = 0
+
+unfoldable pub sumOver : (Step → ℕ) → List Step → ℕ
+sumOver cost [] = 0
+sumOver cost (s ∷ ss) = cost s + sumOver cost ss
+
+-- the steps, mask draws and nonzero draws of a list of steps
+unfoldable pub sums : Order → List Step → Counts
+sums o l =
+    record { steps = length l; mask = sumOver (maskCost o) l; nonzero = sumOver (nonzeroCost o) l }
+
+-- those of a full solve
+abbrev pub fullMask : Order → ℕ
+fullMask o = sumOver (maskCost o) (stepList (o .size))
+
+abbrev pub fullNonzero : Order → ℕ
+fullNonzero o = sumOver (nonzeroCost o) (stepList (o .size))

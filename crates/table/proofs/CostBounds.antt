@@ -1,0 +1,63 @@
+-- How many draws a step takes at most: there are four shares or fewer, and 97 columns or fewer.
+-- Assumes nothing.
+use mathlib.Core.Bool.{Bool, true, false}
+use Prim.Native.Nat.{ℕ, _+_, _-_, _*_, _≤_}
+use native.Mathlib.Omega.{arith}
+use native.Mathlib.Nat.{mul-le-mul}
+use lib.Dec.{eqb}
+use Rattle.field.specs.Field.{pick}
+use Rattle.sharing.specs.Run.{pairs}
+use Rattle.sharing.specs.Rules.{folds}
+use Rattle.sharing.proofs.Pairs.{pairs-count}
+use Rattle.table.specs.Costs.{flagCost, mixCost, checkCost, scaleCost, clearCost, openCost}
+
+-- the products of the number of shares
+pub record Few (n : ℕ) : Type 0 where
+  pub square : (n - 1) * (n - 1) ≤ 9
+  pub product : n * (n - 1) ≤ 12
+  pub pairs-few : pairs n ≤ 6
+
+pub few : (n : ℕ) → n ≤ 4 → Few n
+few n h =
+    let p : n * (n - 1) ≤ 12 = mul-le-mul {n₁ = n} {m₁ = n - 1} {n₂ = 4} {m₂ = 3} h (omega arith) in
+    record {
+      square = mul-le-mul {n₁ = n - 1} {m₁ = n - 1} {n₂ = 3} {m₂ = 3} (omega arith) (omega arith);
+      product = p;
+      pairs-few = omega (arith, pairs-count n);
+    }
+
+folds-few : (f : ℕ) → folds f ≤ 3
+unfolding folds
+folds-few f = by (eqb f 16)
+  where
+    by : (b : Bool) → pick {A = ℕ} b 2 3 ≤ 3
+    by true = omega arith
+    by false = omega arith
+
+pub flag-few : (f n : ℕ) → n ≤ 4 → flagCost f n ≤ 27
+unfolding flagCost
+flag-few f n h =
+    let w = few n h in
+    mul-le-mul {n₁ = folds f} {m₁ = n - 1 + pairs n} {n₂ = 3} {m₂ = 9} (folds-few f) (omega arith)
+
+pub clear-few : (n l : ℕ) → n ≤ 4 → l ≤ 97 → clearCost n l ≤ 582
+unfolding clearCost
+clear-few n l h k = mul-le-mul {n₁ = l} {m₁ = pairs n} {n₂ = 97} {m₂ = 6} k (few n h .pairs-few)
+
+pub mix-few : (f n l : ℕ) → n ≤ 4 → l ≤ 97 → mixCost f n l ≤ 1179
+unfolding mixCost clearCost
+mix-few f n l h k = omega (arith, flag-few f n h, clear-few n l h k)
+
+pub check-few : (f n : ℕ) → n ≤ 4 → checkCost f n ≤ 1179
+unfolding checkCost
+check-few f n h = omega (arith, flag-few f n h, few n h .pairs-few)
+
+pub scale-few : (n l : ℕ) → n ≤ 4 → l ≤ 97 → scaleCost n l ≤ 1179
+unfolding scaleCost
+scale-few n l h k =
+    let w = few n h in
+    omega (arith, mul-le-mul {n₁ = n * (n - 1)} {m₁ = l} {n₂ = 12} {m₂ = 97} (w .product) k)
+
+pub open-few : (n : ℕ) → n ≤ 4 → openCost n ≤ 1179
+unfolding openCost
+open-few n h = omega (arith, few n h .pairs-few)

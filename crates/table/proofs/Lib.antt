@@ -1,0 +1,12 @@
+pub mod Parts
+pub mod Cells
+pub mod Columns
+pub mod Lengths
+pub mod Entries
+pub mod Values
+pub mod Whole
+pub mod Draws
+pub mod Examples
+pub mod CostBounds
+pub mod Scaling
+pub mod Lent

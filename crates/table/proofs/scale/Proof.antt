@@ -1,0 +1,176 @@
+-- `table::scale` meets its contract: what it lends are the pivot and the row, the factors are those of the pivot's inversion, and d is how many
+-- draws that took. Assumes nothing.
+use mathlib.Core.Path.{_≡_}
+use Prim.Native.Nat.{_+_, _-_, _*_, _≤_}
+use native.Mathlib.Omega.{arith}
+use lib.ListN.{length, length-drop}
+use Rattle.field.specs.Field.{fieldOf}
+use Rattle.sharing.specs.Rules.{factors, fourOf, inversionDraws}
+use Rattle.sharing.proofs.Loops.{rest}
+use Rattle.table.specs.Layout.{entry, columnsFrom}
+use Rattle.table.specs.Costs.{scaleNonzero}
+use Rattle.table.specs.Steps.{scale}
+use Rattle.table.proofs.Parts.{part-lent, put-lent}
+use Rattle.table.proofs.Cells.{cell-in, row-in, entry-length, rowFrom-length}
+use Rattle.table.proofs.CostBounds.{few}
+use Rattle.table.proofs.Draws.{scaleCost-is}
+use Rattle.table.proofs.Scaling.{scaleAll-four}
+use borrow.Author.Needs.{needs}
+use Rattle.table.proofs.scale.Statement.{statement}
+use Rattle.table.proofs.scale.Tie as tie
+
+-- the pivot, and the row from it on, lie within the table
+pivot-within : (c : tie.After-cell) → c .cell .result + c .before .before .before .before .args .n ≤ length (c .before .before .before .before .args .table .now)
+pivot-within c =
+    let s = c .before .before .before .before in
+    omega (arith, c .cell .ensures, cell-in (s .args .n) (s .pre .1 .0), s .pre .1 .1 .0)
+
+row-within : (c : tie.After-cell)
+    → let s = c .before .before .before .before in
+    c .cell .result + columnsFrom (s .args .w) (s .args .j) * s .args .n ≤ length (s .args .table .now)
+row-within c =
+    let s = c .before .before .before .before in
+    omega (arith, c .cell .ensures, row-in (s .args .n) (s .pre .1 .0), s .pre .1 .1 .0)
+
+-- how many draws the inversion took
+inverted : (c : tie.After-pair-count)
+    → let n = c .before .before .before .before .before .args .n in
+    (n - 1) * (n - 1) + c .pair-count .result ≡ inversionDraws n
+unfolding inversionDraws
+inverted c = rw (c .pair-count .ensures)
+
+-- the inversion's draws, then those of the factors, are there
+room : (c : tie.After-pair-count)
+    → let s = c .before .before .before .before .before in
+    inversionDraws (s .args .n) + s .args .n * (columnsFrom (s .args .w) (s .args .j) * (s .args .n - 1)) ≤ length (s .args .mask .now)
+room c =
+    let s = c .before .before .before .before .before in
+    omega (arith, scaleCost-is (s .args .n) (columnsFrom (s .args .w) (s .args .j)), s .pre .1 .1 .1)
+
+-- the inversion gave n factors of the pivot
+found : (c : tie.After-inversion)
+    → let x = c .before .before .before .before .before .before .before .before .args in
+    (c .inversion .result .n ≡ x .n)
+    × (c .inversion .result .f ≡ fourOf (factors (fieldOf (x .f)) (x .nonzero .now) (x .mask .now) (entry (x .n) (x .w) (x .r) (x .j) (x .table .now))))
+found c =
+    let s = c .before .before .before .before .before .before .before .before in
+    rw (part-lent, c .before .before .before .before .cell .ensures, entry-length _ _ _ _ (s .pre .1 .1 .0) (s .pre .1 .0)) at (c .inversion .ensures)
+
+add-columns : tie.Need-add-columns
+add-columns c = search needs
+
+sub-columns : tie.Need-sub-columns
+sub-columns c = search needs
+
+mul-len : tie.Need-mul-len
+mul-len c =
+    let s = c .before .before .before in
+    omega (arith, row-in (s .args .n) (s .pre .1 .0), s .pre .1 .1 .0)
+
+cell-requires : tie.Need-cell-requires
+cell-requires c κs = search needs
+
+sub-d : tie.Need-sub-d
+sub-d c = search needs
+
+sub-d-2 : tie.Need-sub-d-2
+sub-d-2 c = search needs
+
+mul-d : tie.Need-mul-d
+mul-d c = omega (arith, few (c .before .before .before .before .args .n) (omega arith) .square)
+
+pair-count-requires : tie.Need-pair-count-requires
+pair-count-requires c κs = search needs
+
+add-d : tie.Need-add-d
+add-d c = omega (arith, inverted c, room c)
+
+add-inversion : tie.Need-add-inversion
+add-inversion c = omega (arith, pivot-within (c .before))
+
+sub-inversion : tie.Need-sub-inversion
+sub-inversion c = search needs
+
+part-inversion-start : tie.Need-part-inversion-start
+part-inversion-start c = search needs
+
+part-inversion-end : tie.Need-part-inversion-end
+part-inversion-end c = omega (arith, pivot-within (c .before .before))
+
+inversion-requires : tie.Need-inversion-requires
+unfolding scaleNonzero
+inversion-requires c κs =
+    let p = c .before .before in
+    let s = p .before .before .before .before .before in
+    rw (part-lent, p .before .cell .ensures, entry-length _ _ _ _ (s .pre .1 .1 .0) (s .pre .1 .0))
+    (omega (arith, room p))
+
+add-scale-all : tie.Need-add-scale-all
+add-scale-all c = omega (arith, row-within (c .before .before .before .before))
+
+sub-scale-all : tie.Need-sub-scale-all
+sub-scale-all c = search needs
+
+part-scale-all-start : tie.Need-part-scale-all-start
+part-scale-all-start c = search needs
+
+part-scale-all-end : tie.Need-part-scale-all-end
+part-scale-all-end c = omega (arith, row-within (c .before .before .before .before))
+
+sub-scale-all-2 : tie.Need-sub-scale-all-2
+sub-scale-all-2 c = let p = c .before .before .before .before in omega (arith, inverted p, room p)
+
+part-scale-all-start-2 : tie.Need-part-scale-all-start-2
+part-scale-all-start-2 c = let p = c .before .before .before .before in omega (arith, inverted p, room p)
+
+part-scale-all-end-2 : tie.Need-part-scale-all-end-2
+part-scale-all-end-2 c = search needs
+
+scale-all-requires : tie.Need-scale-all-requires
+scale-all-requires c κs =
+    let i = c .before .before in
+    let p = i .before .before .before in
+    let s = p .before .before .before .before .before in
+    rw (found i .0, part-lent, p .before .cell .ensures, rowFrom-length _ _ _ _ (s .pre .1 .1 .0) (s .pre .1 .0), rest, length-drop)
+    (omega (arith, inverted p, room p))
+
+same-length : tie.Need-same-length
+same-length c = search needs
+
+returns : tie.Need-returns
+unfolding scale
+returns c =
+    let i = c .before .before .before .before .before in
+    let p = i .before .before .before in
+    let s = p .before .before .before .before .before in
+    let h : s .args .n ≤ 4 = omega arith in
+    rw (put-lent, c .before .before .scale-all .ensures, found i .0, found i .1, rest, part-lent, p .before .cell .ensures, inverted p, scaleAll-four _ _ _ _ _ _ h)
+
+pub scale-spec : {M : Type 1} → statement M
+scale-spec =
+    tie.close
+    (tie.spec
+    add-columns
+    sub-columns
+    mul-len
+    cell-requires
+    sub-d
+    sub-d-2
+    mul-d
+    pair-count-requires
+    add-d
+    add-inversion
+    sub-inversion
+    part-inversion-start
+    part-inversion-end
+    inversion-requires
+    add-scale-all
+    sub-scale-all
+    part-scale-all-start
+    part-scale-all-end
+    sub-scale-all-2
+    part-scale-all-start-2
+    part-scale-all-end-2
+    scale-all-requires
+    same-length
+    returns)

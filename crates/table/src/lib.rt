@@ -1,0 +1,387 @@
+// The five steps on a lent table, share for share as 01's step list says. Stands on sharing.
+// f is the field's number, n the shares and w the entries of a row; the step works on the table in place and on copies of what it reads
+// twice. mask and nonzero are parts of the two tapes that begin at the step's own first draw and are at least as long as it needs.
+ghost use mathlib.Core.Path.{_≡_};
+ghost use Prim.Native.Nat.{_+_, _-_, _*_, _<_, _≤_};
+ghost use lib.Dec.{eqb};
+ghost use lib.ListN.{length};
+ghost use Rattle.field.specs.Field.{fieldOf, sub};
+ghost use Rattle.sharing.specs.Run.{run, pairs};
+ghost use Rattle.sharing.specs.Lists.{joined};
+ghost use Rattle.sharing.specs.Rules.{flagDraws, blindedValue, scaled, refresh, product};
+ghost use Rattle.table.specs.Layout.{Sizes, Place, cell, tableBytes, part, put, entry, columnsFrom};
+ghost use Rattle.table.specs.Steps.{signed, columnTurn, joinTurn, joinRow, joinRows, mix, check, scaleTurn, scaleRow, scaleAll, scale, clear, opens, liftTurn, lift};
+ghost use Rattle.table.specs.Costs.{mixCost, checkCost, scaleCost, scaleNonzero, clearCost, openCost};
+use sharing::Factors;
+
+// The first byte of row r, column c.
+pub fn cell(n: usize, rows: usize, w: usize, r: usize, c: usize) -> usize
+    requires { ⌜ Sizes n rows w ⌝ }
+    requires { ⌜ Place rows w r c ⌝ }
+    ensures { λ x. ⌜ x ≡ cell n w r c ⌝ }
+{
+    ((r - 1) * w + (c - 1)) * n
+}
+
+fn signed(f: u64, minus: bool, a: u8, b: u8) -> u8
+    ensures { λ r. ⌜ r ≡ signed (fieldOf f) minus a b ⌝ }
+{
+    if minus {
+        field::sub(f, a, b)
+    } else {
+        field::add(f, a, b)
+    }
+}
+
+// s += or -= v, share by share.
+fn join(f: u64, minus: bool, s: &mut [u8], v: &[u8])
+    requires { ⌜ length (now v) ≡ length (now s) ⌝ }
+    ensures { λ r. ⌜ now (s .exit) ≡ joined (signed (fieldOf f) minus) (now (s .entry)) (now (v .entry)) ⌝ }
+{
+    for i in 0..s.len() {
+        s[i] = signed(f, minus, s[i], v[i]);
+    }
+}
+
+// One entry: e += or -= Product(factor, other).
+fn join_entry(f: u64, minus: bool, e: &mut [u8], other: &[u8], factor: &[u8], mask: &[u8])
+    requires { ⌜ (length (now e) ≤ 4) × (length (now other) ≡ length (now e)) × (length (now factor) ≡ length (now e)) ⌝ }
+    requires { ⌜ pairs (length (now e)) ≤ length (now mask) ⌝ }
+    ensures { λ r. ⌜ now (e .exit) ≡ joined (signed (fieldOf f) minus) (now (e .entry)) (product (fieldOf f) (now (mask .entry)) (now (factor .entry)) (now (other .entry))) ⌝ }
+{
+    let n = e.len();
+    let mut out = [0u8; 4];
+    sharing::product(f, &mut out[..n], factor, other, mask);
+    join(f, minus, e, &out[..n]);
+}
+
+// Column u of a row; its first byte is at p, and its first draw at d.
+fn join_column(
+    f: u64,
+    minus: bool,
+    n: usize,
+    row: &mut [u8],
+    other: &[u8],
+    factor: &[u8],
+    mask: &[u8],
+    u: usize,
+    p: usize,
+    d: usize,
+)
+    requires { ⌜ (n ≤ 4) × (length (now factor) ≡ n) × (p ≡ u * n) × (d ≡ u * pairs n) ⌝ }
+    requires { ⌜ (p + n ≤ length (now row)) × (p + n ≤ length (now other)) × (d + pairs n ≤ length (now mask)) ⌝ }
+    ensures { λ r. ⌜ now (row .exit) ≡ columnTurn n (joinTurn (fieldOf f) minus n (now (mask .entry)) (now (factor .entry)) (now (other .entry))) u (now (row .entry)) ⌝ }
+{
+    let e = p + n;
+    join_entry(f, minus, &mut row[p..e], &other[p..e], factor, &mask[d..]);
+}
+
+// A row from some column on, columns in order: row += or -= Product(factor, other row). Mix and Clear spend their time here.
+fn join_row(
+    f: u64,
+    minus: bool,
+    n: usize,
+    columns: usize,
+    row: &mut [u8],
+    other: &[u8],
+    factor: &[u8],
+    mask: &[u8],
+)
+    requires { ⌜ (2 ≤ n) × (n ≤ 4) × (columns ≤ 97) × (length (now factor) ≡ n) ⌝ }
+    requires { ⌜ (length (now row) ≡ columns * n) × (length (now other) ≡ columns * n) × (columns * pairs n ≤ length (now mask)) ⌝ }
+    ensures { λ r. ⌜ now (row .exit) ≡ joinRow (fieldOf f) minus n columns (now (mask .entry)) (now (factor .entry)) (now (other .entry)) (now (row .entry)) ⌝ }
+{
+    let np = sharing::pair_count(n);
+    let mut p: usize = 0;
+    let mut d: usize = 0;
+    for u in 0..columns {
+        join_column(f, minus, n, row, other, factor, mask, u, p, d);
+        p += n;
+        d += np;
+    }
+}
+
+// Row a += or -= Product(factor, row b), from column j on. Row b is copied, so that the two rows are separate slices below.
+fn join_rows(
+    f: u64,
+    minus: bool,
+    n: usize,
+    rows: usize,
+    w: usize,
+    table: &mut [u8],
+    factor: &[u8],
+    a: usize,
+    b: usize,
+    j: usize,
+    mask: &[u8],
+)
+    requires { ⌜ Sizes n rows w ⌝ }
+    requires { ⌜ Place rows w a j × Place rows w b j ⌝ }
+    requires { ⌜ (length (now table) ≡ tableBytes n rows w) × (length (now factor) ≡ n) × (columnsFrom w j * pairs n ≤ length (now mask)) ⌝ }
+    ensures { λ r. ⌜ now (table .exit) ≡ joinRows (fieldOf f) minus n w a b j (now (factor .entry)) (now (mask .entry)) (now (table .entry)) ⌝ }
+{
+    let columns = w + 1 - j;
+    let len = columns * n;
+    let p = cell(n, rows, w, a, j);
+    let o = cell(n, rows, w, b, j);
+    let mut other = [0u8; 388];
+    sharing::copy_into(&mut other[..len], &table[o..o + len]);
+    join_row(
+        f,
+        minus,
+        n,
+        columns,
+        &mut table[p..p + len],
+        &other[..len],
+        factor,
+        mask,
+    );
+}
+
+// How many draws a zero flag takes.
+fn flag_draws(f: u64, n: usize) -> usize
+    requires { ⌜ (2 ≤ n) × (n ≤ 4) ⌝ }
+    ensures { λ r. ⌜ (r ≡ flagDraws f n) × (r ≤ 27) ⌝ }
+{
+    sharing::fold_count(f) * (n - 1 + sharing::pair_count(n))
+}
+
+// Mix(j,k), where row r takes column j's pivot.
+pub fn mix(
+    f: u64,
+    n: usize,
+    rows: usize,
+    w: usize,
+    table: &mut [u8],
+    r: usize,
+    j: usize,
+    k: usize,
+    mask: &[u8],
+)
+    requires { ⌜ Sizes n rows w ⌝ }
+    requires { ⌜ Place rows w r j × Place rows w k j ⌝ }
+    requires { ⌜ (length (now table) ≡ tableBytes n rows w) × (mixCost f n (columnsFrom w j) ≤ length (now mask)) ⌝ }
+    ensures { λ x. ⌜ now (table .exit) ≡ mix f n w r j k (now (mask .entry)) (now (table .entry)) ⌝ }
+{
+    let pivot = cell(n, rows, w, r, j);
+    let d = flag_draws(f, n);
+    let mut flag = [0u8; 4];
+    sharing::zero_flag(f, &mut flag[..n], &table[pivot..pivot + n], mask);
+    join_rows(f, false, n, rows, w, table, &flag[..n], r, k, j, &mask[d..]);
+}
+
+// Check(j): 1 where the pivot's value is 0, and 0 otherwise.
+pub fn check(
+    f: u64,
+    n: usize,
+    rows: usize,
+    w: usize,
+    table: &[u8],
+    r: usize,
+    j: usize,
+    mask: &[u8],
+) -> u8
+    requires { ⌜ Sizes n rows w ⌝ }
+    requires { ⌜ Place rows w r j ⌝ }
+    requires { ⌜ (length (now table) ≡ tableBytes n rows w) × (checkCost f n ≤ length (now mask)) ⌝ }
+    ensures { λ x. ⌜ x ≡ check f n w r j (now (mask .entry)) (now (table .entry)) ⌝ }
+{
+    let p = cell(n, rows, w, r, j);
+    let d = flag_draws(f, n);
+    let mut flag = [0u8; 4];
+    sharing::zero_flag(f, &mut flag[..n], &table[p..p + n], mask);
+    sharing::opening(f, &flag[..n], &mask[d..])
+}
+
+// One entry times z, refreshed.
+fn scale_entry(f: u64, e: &mut [u8], z: u8, mask: &[u8])
+    requires { ⌜ (0 < length (now e)) × (length (now e) - 1 ≤ length (now mask)) ⌝ }
+    ensures { λ r. ⌜ now (e .exit) ≡ refresh (fieldOf f) (now (mask .entry)) (scaled (fieldOf f) z (now (e .entry))) ⌝ }
+{
+    sharing::scale(f, e, z);
+    sharing::refresh(f, e, mask);
+}
+
+fn scale_column(f: u64, n: usize, row: &mut [u8], z: u8, mask: &[u8], u: usize, p: usize, d: usize)
+    requires { ⌜ (2 ≤ n) × (n ≤ 4) × (p ≡ u * n) × (d ≡ u * (n - 1)) ⌝ }
+    requires { ⌜ (p + n ≤ length (now row)) × (d + (n - 1) ≤ length (now mask)) ⌝ }
+    ensures { λ r. ⌜ now (row .exit) ≡ columnTurn n (scaleTurn (fieldOf f) n z (now (mask .entry))) u (now (row .entry)) ⌝ }
+{
+    let e = p + n;
+    scale_entry(f, &mut row[p..e], z, &mask[d..]);
+}
+
+// One factor, columns in order.
+fn scale_row(f: u64, n: usize, columns: usize, row: &mut [u8], z: u8, mask: &[u8])
+    requires { ⌜ (2 ≤ n) × (n ≤ 4) × (columns ≤ 97) ⌝ }
+    requires { ⌜ (length (now row) ≡ columns * n) × (columns * (n - 1) ≤ length (now mask)) ⌝ }
+    ensures { λ r. ⌜ now (row .exit) ≡ scaleRow (fieldOf f) n columns z (now (mask .entry)) (now (row .entry)) ⌝ }
+{
+    let mut p: usize = 0;
+    let mut d: usize = 0;
+    for u in 0..columns {
+        scale_column(f, n, row, z, mask, u, p, d);
+        p += n;
+        d += n - 1;
+    }
+}
+
+// Each factor in order.
+fn scale_all(f: u64, columns: usize, row: &mut [u8], factors: Factors, mask: &[u8])
+    requires { ⌜ (2 ≤ factors .n) × (factors .n ≤ 4) × (columns ≤ 97) ⌝ }
+    requires { ⌜ (length (now row) ≡ columns * factors .n) × (factors .n * (columns * (factors .n - 1)) ≤ length (now mask)) ⌝ }
+    ensures { λ r. ⌜ now (row .exit) ≡ scaleAll (fieldOf f) (factors .n) columns (factors .f) (now (mask .entry)) (now (row .entry)) ⌝ }
+{
+    let n = factors.n;
+    let list = factors.f;
+    let turn = columns * (n - 1);
+    let mut d: usize = 0;
+    for i in 0..n {
+        let z = list[i];
+        scale_row(f, n, columns, row, z, &mask[d..]);
+        d += turn;
+    }
+}
+
+// Scale(j), where row r takes column j's pivot.
+pub fn scale(
+    f: u64,
+    n: usize,
+    rows: usize,
+    w: usize,
+    table: &mut [u8],
+    r: usize,
+    j: usize,
+    nonzero: &[u8],
+    mask: &[u8],
+)
+    requires { ⌜ Sizes n rows w ⌝ }
+    requires { ⌜ Place rows w r j ⌝ }
+    requires { ⌜ (length (now table) ≡ tableBytes n rows w) × (scaleCost n (columnsFrom w j) ≤ length (now mask)) × (scaleNonzero n ≤ length (now nonzero)) ⌝ }
+    ensures { λ x. ⌜ now (table .exit) ≡ scale f n w r j (now (nonzero .entry)) (now (mask .entry)) (now (table .entry)) ⌝ }
+{
+    let columns = w + 1 - j;
+    let len = columns * n;
+    let p = cell(n, rows, w, r, j);
+    let d = (n - 1) * (n - 1) + sharing::pair_count(n);
+    let factors = sharing::inversion(f, &table[p..p + n], nonzero, mask);
+    scale_all(f, columns, &mut table[p..p + len], factors, &mask[d..]);
+}
+
+// Whether the inversion of T[r,j] opens 0: where no nonzero draw is 0, whether the pivot's value is 0. The table is only read.
+pub fn opens_zero(
+    f: u64,
+    n: usize,
+    rows: usize,
+    w: usize,
+    table: &[u8],
+    r: usize,
+    j: usize,
+    nonzero: &[u8],
+    mask: &[u8],
+) -> bool
+    requires { ⌜ Sizes n rows w ⌝ }
+    requires { ⌜ Place rows w r j ⌝ }
+    requires { ⌜ (length (now table) ≡ tableBytes n rows w) × (scaleCost n (columnsFrom w j) ≤ length (now mask)) × (scaleNonzero n ≤ length (now nonzero)) ⌝ }
+    ensures { λ x. ⌜ x ≡ eqb (blindedValue (fieldOf f) (now (nonzero .entry)) (now (mask .entry)) (entry n w r j (now (table .entry)))) 0 ⌝ }
+{
+    let p = cell(n, rows, w, r, j);
+    sharing::blinded_value(f, &table[p..p + n], nonzero, mask) == 0
+}
+
+// Clear(j,k), where row r takes column j's pivot.
+pub fn clear(
+    f: u64,
+    n: usize,
+    rows: usize,
+    w: usize,
+    table: &mut [u8],
+    r: usize,
+    j: usize,
+    k: usize,
+    mask: &[u8],
+)
+    requires { ⌜ Sizes n rows w ⌝ }
+    requires { ⌜ Place rows w r j × Place rows w k j ⌝ }
+    requires { ⌜ (length (now table) ≡ tableBytes n rows w) × (clearCost n (columnsFrom w j) ≤ length (now mask)) ⌝ }
+    ensures { λ x. ⌜ now (table .exit) ≡ clear f n w r j k (now (mask .entry)) (now (table .entry)) ⌝ }
+{
+    let p = cell(n, rows, w, k, j);
+    let mut copy = [0u8; 4];
+    sharing::copy_into(&mut copy[..n], &table[p..p + n]);
+    join_rows(f, true, n, rows, w, table, &copy[..n], k, r, j, mask);
+}
+
+// Open's first half: what stands in row r's last column, opened.
+pub fn open(f: u64, n: usize, rows: usize, w: usize, table: &[u8], r: usize, mask: &[u8]) -> u8
+    requires { ⌜ Sizes n rows w ⌝ }
+    requires { ⌜ Place rows w r w ⌝ }
+    requires { ⌜ (length (now table) ≡ tableBytes n rows w) × (openCost n ≤ length (now mask)) ⌝ }
+    ensures { λ x. ⌜ x ≡ opens f n w r (now (mask .entry)) (now (table .entry)) ⌝ }
+{
+    let p = cell(n, rows, w, r, w);
+    sharing::opening(f, &table[p..p + n], mask)
+}
+
+// T[i+1,w] -= x·T[i+1,j], share by share.
+fn lift_row(f: u64, n: usize, rows: usize, w: usize, table: &mut [u8], j: usize, x: u8, i: usize)
+    requires { ⌜ Sizes n rows w ⌝ }
+    requires { ⌜ Place rows w (i + 1) j ⌝ }
+    requires { ⌜ length (now table) ≡ tableBytes n rows w ⌝ }
+    ensures { λ r. ⌜ now (table .exit) ≡ liftTurn (fieldOf f) n w j x i (now (table .entry)) ⌝ }
+{
+    let o = cell(n, rows, w, i + 1, j);
+    let p = cell(n, rows, w, i + 1, w);
+    let mut copy = [0u8; 4];
+    sharing::copy_into(&mut copy[..n], &table[o..o + n]);
+    sharing::scale(f, &mut copy[..n], x);
+    join(f, true, &mut table[p..p + n], &copy[..n]);
+}
+
+// Open's second half: the rows above row r lose x times their entry of column j.
+pub fn lift(f: u64, n: usize, rows: usize, w: usize, table: &mut [u8], r: usize, j: usize, x: u8)
+    requires { ⌜ Sizes n rows w ⌝ }
+    requires { ⌜ Place rows w r j ⌝ }
+    requires { ⌜ length (now table) ≡ tableBytes n rows w ⌝ }
+    ensures { λ a. ⌜ now (table .exit) ≡ lift f n w r j x (now (table .entry)) ⌝ }
+{
+    for i in 0..r - 1 {
+        lift_row(f, n, rows, w, table, j, x, i);
+    }
+}
+
+// The costs of the steps, in 01's closed form; l is the number of columns from j on.
+pub fn mix_cost(f: u64, n: usize, l: usize) -> usize
+    requires { ⌜ (2 ≤ n) × (n ≤ 4) × (l ≤ 97) ⌝ }
+    ensures { λ r. ⌜ (r ≡ mixCost f n l) × (r ≤ 1179) ⌝ }
+{
+    flag_draws(f, n) + l * sharing::pair_count(n)
+}
+
+pub fn check_cost(f: u64, n: usize) -> usize
+    requires { ⌜ (2 ≤ n) × (n ≤ 4) ⌝ }
+    ensures { λ r. ⌜ (r ≡ checkCost f n) × (r ≤ 1179) ⌝ }
+{
+    flag_draws(f, n) + sharing::pair_count(n)
+}
+
+pub fn scale_cost(n: usize, l: usize) -> usize
+    requires { ⌜ (2 ≤ n) × (n ≤ 4) × (l ≤ 97) ⌝ }
+    ensures { λ r. ⌜ (r ≡ scaleCost n l) × (r ≤ 1179) ⌝ }
+{
+    (n - 1) * (n - 1) + sharing::pair_count(n) + n * (n - 1) * l
+}
+
+pub fn clear_cost(n: usize, l: usize) -> usize
+    requires { ⌜ (2 ≤ n) × (n ≤ 4) × (l ≤ 97) ⌝ }
+    ensures { λ r. ⌜ (r ≡ clearCost n l) × (r ≤ 1179) ⌝ }
+{
+    l * sharing::pair_count(n)
+}
+
+pub fn open_cost(n: usize) -> usize
+    requires { ⌜ (2 ≤ n) × (n ≤ 4) ⌝ }
+    ensures { λ r. ⌜ (r ≡ openCost n) × (r ≤ 1179) ⌝ }
+{
+    sharing::pair_count(n)
+}
