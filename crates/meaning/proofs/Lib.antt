@@ -1,0 +1,12 @@
+pub mod Elements
+pub mod Grid
+pub mod Outcomes
+pub mod Scaling
+pub mod Link
+pub mod Listed
+pub mod Acted
+pub mod Walked
+pub mod Meant
+pub mod Alike
+pub mod Dealt
+pub mod Independent

@@ -1,0 +1,55 @@
+-- A call at work: what it says and leaves where its checks refuse, and where they pass.
+-- Assumes nothing.
+use mathlib.Core.Path.{_≡_, refl, sym, ap, _∙_}
+use mathlib.Core.List.{List}
+use Prim.Native.Nat.{ℕ}
+use Rattle.course.specs.declared.Step.{Step}
+use Rattle.course.specs.declared.Place.{Place}
+use Rattle.course.specs.declared.Place.the-variants.{At, Stopped, Done}
+use Rattle.course.specs.declared.Progress.{Progress}
+use Rattle.course.specs.Next.{nextOf}
+use Rattle.walk.specs.declared.Ending.{Ending}
+use Rattle.walk.specs.Act.{Held, held, opened, acted}
+use Rattle.walk.specs.Walk.{Solution, leaves}
+use Rattle.solver.specs.declared.Refusal.{Refusal}
+use Rattle.solver.specs.declared.checks.Verdict.{Verdict}
+use Rattle.solver.specs.declared.checks.Verdict.the-variants.{Pass, Refuse}
+use Rattle.solver.specs.Told.{Told, Line, passed, refused}
+use Rattle.solver.specs.Refusals.{paper}
+use Rattle.solver.specs.Verdicts.{told}
+use Rattle.solver.specs.Calls.{Says, refuses, gives, Outcome, after, call, solveDoes, Stride, moved, tells, lent, orderOf, stepDoes}
+
+module _ {A L : Type 0} where
+  pub call-goes : (x : Told) (found : L) (does : Outcome A L) → x ≡ passed → call x found does ≡ does
+  unfolding call
+  call-goes x found does e = rw e
+
+  pub call-stops : (x : Told) (found : L) (does : Outcome A L) (l : Line) → x ≡ refused l → call x found does ≡ after (refuses l) found
+  unfolding call
+  call-stops x found does l e = rw e
+
+  pub refuses-call : (v : Verdict) (r : Refusal) (x : Told) (found : L) (does : Outcome A L) → told v ≡ x → v ≡ Refuse r
+      → after (refuses (paper r)) found ≡ call x found does
+  refuses-call v r x found does e h = sym (call-stops x found does (paper r) (sym e ∙ ap told h))
+
+  pub passes-call : (v : Verdict) (x : Told) (found : L) (does : Outcome A L) → told v ≡ x → v ≡ Pass → does ≡ call x found does
+  passes-call v x found does e h = sym (call-goes x found does (sym e ∙ ap told h))
+
+-- the ending of a solve, and what it leaves
+pub solve-done : (a : Says Ending) (e : Ending) (t x : List ℕ) (s : Solution) → a ≡ gives e → leaves e t x ≡ s → after a (held t x) ≡ solveDoes s
+solve-done a e t x s g h = ap (λ (u : Says Ending). after u (held t x)) g ∙ ap solveDoes h
+
+-- the step of a place: what it opens, leaves and tells, and the next place
+module _ (p : Progress) (place : Place) (h : Held) (mask nonzero : List ℕ) where
+  pub step-done : (s : Step) (k : Held) (x : ℕ) (a : Says Stride) (n : Progress) → place ≡ At s → x ≡ opened (orderOf p) s mask h
+      → k ≡ acted (orderOf p) s mask nonzero h → a ≡ gives (tells s x) → n ≡ nextOf p x → after a (lent n k) ≡ stepDoes p place h mask nonzero
+  unfolding stepDoes
+  step-done s k x a n e opens leaves tells-so moves = rw (e, tells-so, moves, leaves, opens)
+
+-- a place that is no step changes nothing
+pub step-stays : (p : Progress) (place : Place) (h : Held) (mask nonzero : List ℕ) → ((s : Step) → place ≡ At s → ⊥)
+    → after (gives moved) (lent p h) ≡ stepDoes p place h mask nonzero
+unfolding stepDoes
+step-stays p (At s) h mask nonzero ended = absurd (ended s refl)
+step-stays p (Stopped j) h mask nonzero ended = refl
+step-stays p Done h mask nonzero ended = refl

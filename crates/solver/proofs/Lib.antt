@@ -1,0 +1,6 @@
+pub mod Told
+pub mod Verdicts
+pub mod Scan
+pub mod Ready
+pub mod Calls
+pub mod Once

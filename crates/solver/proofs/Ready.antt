@@ -1,0 +1,278 @@
+-- What a pass means: the facts that the work of each call asks for, from the checks of its order.
+-- Assumes nothing.
+use mathlib.Core.Bool.{Bool, true, false, not, _||_, _&&_, false≢true}
+use mathlib.Core.List.{List}
+use mathlib.Core.Logic.{_⊎_, inl, inr, ⊎-elim}
+use mathlib.Core.Path.{_≡_, refl, sym, _∙_}
+use Prim.Native.Nat.{ℕ, _+_, _-_, _*_, _<_, _≤_}
+use native.Mathlib.Decide.{ℕ-discrete}
+use native.Mathlib.Nat.{mul-le-mul}
+use native.Mathlib.Omega.{arith}
+use lib.Dec.{eqb, ltb}
+use lib.ListN.{length}
+use borrow.Author.Tests.{ltb-false, eqb-true, eqb-false, not-false, eq-eqb, ne-eqb}
+use Rattle.field.specs.Field.{fieldOf}
+use Rattle.sharing.specs.Rules.{drawAt, blindedValue}
+use Rattle.table.specs.Layout.{Sizes as Shape, Place as Cell, tableBytes, entry}
+use Rattle.table.specs.Costs.{scaleNonzero}
+use Rattle.table.specs.Values.{value}
+use Rattle.table.proofs.Values.{pivot-zero, zero-pivot}
+use Rattle.course.specs.declared.Step.{Step}
+use Rattle.course.specs.declared.Step.the-variants.{Scale}
+use Rattle.course.specs.declared.Place.{Place}
+use Rattle.course.specs.declared.Place.the-variants.{At}
+use Rattle.course.specs.declared.Order.{Order}
+use Rattle.course.specs.StepList.{Sizes, inList, maskCost, nonzeroCost, fullMask, fullNonzero}
+use Rattle.course.proofs.Within.{within}
+use Rattle.solver.specs.Told.{passed, refuse, _or_}
+use Rattle.solver.specs.Refusals.{outside, firstPlace, zeroDraw, placed, entries, wholeTable, dealDraws, maskAt, nonzeroAt, zeroPivotOf, no1, no2, no3, no4, no5, no6, no7, no8, no7step, no8step, no9, no10, no12, sizes, buffers, dealOrder, gatherOrder, tapes, solveOrder, placing, lending, stepOrder}
+use Rattle.solver.proofs.Told.{left, right, not-then}
+use Rattle.solver.proofs.Scan.{before-first}
+
+neither : (s t : Bool) → s || t ≡ false → (s ≡ false) × (t ≡ false)
+neither true t e = absurd (false≢true (sym e))
+neither false t e = (refl, e)
+
+inside : (low high x : ℕ) → outside low high x ≡ false → (low ≤ x) × (x ≤ high)
+unfolding outside
+inside low high x e =
+    let w = neither (ltb x low) (ltb high x) e in
+    (ltb-false x low (w .0), ltb-false high x (w .1))
+
+known : (s t : Bool) → not s && not t ≡ false → (s ≡ true) ⊎ (t ≡ true)
+known true t e = inl refl
+known false t e = inr (not-false t e)
+
+same : (wanted long k : ℕ) (d : List ℕ) → refuse k (not (eqb long wanted)) d ≡ passed → long ≡ wanted
+same wanted long k d e = eqb-true long wanted (not-false _ (not-then _ _ e))
+
+enough : (wanted long k : ℕ) (d : List ℕ) → refuse k (ltb long wanted) d ≡ passed → wanted ≤ long
+enough wanted long k d e = ltb-false long wanted (not-then _ _ e)
+
+-- 1 to 3 passed
+pub sized : (o : Order) → sizes o ≡ passed → Sizes o
+unfolding sizes no1 no2 no3
+sized o e =
+    let a = no1 (o .field) in
+    let b = no2 (o .shares) in
+    let d = no3 (o .size) in
+    let two : a or b ≡ passed = left (a or b) d e in
+    let n = inside 2 4 (o .shares) (not-then _ _ (right a b two)) in
+    let m = inside 1 96 (o .size) (not-then _ _ (right (a or b) d e)) in
+    record {
+      field = ⊎-elim (λ h. inl (eqb-true (o .field) 16 h)) (λ h. inr (eqb-true (o .field) 256 h)) (known _ _ (not-then _ _ (left a b two)));
+      two = n .0;
+      four = n .1;
+      some = m .0;
+      most = m .1;
+    }
+
+-- 4 to 6 passed
+pub record Buffers (wanted : ℕ) (input : List ℕ) (target long : ℕ) : Type 0 where
+  pub whole : length input ≡ wanted
+  pub room : long ≡ target
+
+pub buffered : (f wanted : ℕ) (input : List ℕ) (target long : ℕ) → buffers f wanted input target long ≡ passed → Buffers wanted input target long
+unfolding buffers no4 no5
+buffered f wanted input target long e =
+    let a = no4 wanted (length input) in
+    let b = no5 target long in
+    let two : a or b ≡ passed = left (a or b) (no6 f input) e in
+    record {
+      whole = same wanted (length input) 4 _ (left a b two);
+      room = same target long 5 _ (right a b two);
+    }
+
+-- the table is as long as its entries' sharings
+whole-entries : (o : Order) → wholeTable o ≡ entries (o .size) * o .shares
+unfolding tableBytes entries
+whole-entries o = refl
+
+pub entries-small : (m : ℕ) → m ≤ 96 → entries m ≤ 9312
+unfolding entries
+entries-small m h = mul-le-mul {n₁ = m} {m₁ = m + 1} {n₂ = 96} {m₂ = 97} h (omega arith)
+
+pub sharing-small : (k n : ℕ) → k ≤ 9312 → n ≤ 4 → k * n ≤ 37248
+sharing-small k n h g = mul-le-mul {n₁ = k} {m₁ = n} {n₂ = 9312} {m₂ = 4} h g
+
+-- Deal's checks passed
+pub record Dealing (o : Order) (values : List ℕ) (target mask : ℕ) : Type 0 where
+  pub sizes : Sizes o
+  pub lent : Buffers (entries (o .size)) values (wholeTable o) target
+  pub drawn : dealDraws o ≤ mask
+
+pub dealing : (o : Order) (values : List ℕ) (target mask : ℕ) → dealOrder o values target mask ≡ passed → Dealing o values target mask
+unfolding dealOrder no7
+dealing o values target mask e =
+    let a = buffers (o .field) (entries (o .size)) values (wholeTable o) target in
+    let rest : a or no7 (dealDraws o) mask ≡ passed = right (sizes o) _ e in
+    record {
+      sizes = sized o (left (sizes o) _ e);
+      lent = buffered _ _ _ _ _ (left a _ rest);
+      drawn = enough (dealDraws o) mask 7 _ (right a _ rest);
+    }
+
+-- Gather's checks passed
+pub record Gathering (o : Order) (t : List ℕ) (target : ℕ) : Type 0 where
+  pub sizes : Sizes o
+  pub lent : Buffers (wholeTable o) t (entries (o .size)) target
+
+pub gathering : (o : Order) (t : List ℕ) (target : ℕ) → gatherOrder o t target ≡ passed → Gathering o t target
+unfolding gatherOrder
+gathering o t target e = record {
+  sizes = sized o (left (sizes o) _ e);
+  lent = buffered _ _ _ _ _ (right (sizes o) _ e);
+}
+
+-- Solve's checks passed
+pub record Solvable (o : Order) (t : List ℕ) (solution mask : ℕ) (nonzero : List ℕ) : Type 0 where
+  pub sizes : Sizes o
+  pub lent : Buffers (wholeTable o) t (o .size) solution
+  pub masks : fullMask o ≤ mask
+  pub others : fullNonzero o ≤ length nonzero
+
+pub solvable : (o : Order) (t : List ℕ) (solution mask : ℕ) (nonzero : List ℕ) → solveOrder o t solution mask nonzero ≡ passed → Solvable o t solution mask nonzero
+unfolding solveOrder tapes no7 no8
+solvable o t solution mask nonzero e =
+    let a = buffers (o .field) (wholeTable o) t (o .size) solution in
+    let rest : a or tapes o mask nonzero ≡ passed = right (sizes o) _ e in
+    let b = no7 (fullMask o) mask in
+    let d = no8 (fullNonzero o) (length nonzero) in
+    let two : b or d ≡ passed = left (b or d) _ (right a _ rest) in
+    record {
+      sizes = sized o (left (sizes o) _ e);
+      lent = buffered _ _ _ _ _ (left a _ rest);
+      masks = enough (fullMask o) mask 7 _ (left b d two);
+      others = enough (fullNonzero o) (length nonzero) 8 _ (right b d two);
+    }
+
+-- 4, 5, 10 and 11 passed
+pub record Placed (o : Order) (place : Place) (table solution : ℕ) : Type 0 where
+  pub whole : table ≡ wholeTable o
+  pub room : solution ≡ o .size
+  pub listed : placed (o .size) place ≡ true
+
+pub placing-says : (o : Order) (place : Place) (table solution : ℕ) → placing o place table solution ≡ passed → Placed o place table solution
+unfolding placing no4 no5 no10
+placing-says o place table solution e =
+    let a = no4 (wholeTable o) table in
+    let b = no5 (o .size) solution in
+    let d = no10 (o .size) place in
+    let three : a or b or d ≡ passed = left (a or b or d) _ e in
+    let two : a or b ≡ passed = left (a or b) d three in
+    record {
+      whole = same (wholeTable o) table 4 _ (left a b two);
+      room = same (o .size) solution 5 _ (right a b two);
+      listed = not-false _ (not-then _ _ (right (a or b) d three));
+    }
+
+-- 6 to 9 passed
+pub record Supplied (o : Order) (place : Place) (mask : ℕ) (nonzero : List ℕ) : Type 0 where
+  pub masks : mask ≡ maskAt o place
+  pub others : length nonzero ≡ nonzeroAt o place
+  pub nonzeros : no9 (o .field) nonzero ≡ passed
+
+pub lending-says : (o : Order) (place : Place) (t : List ℕ) (mask : ℕ) (nonzero : List ℕ) → lending o place t mask nonzero ≡ passed → Supplied o place mask nonzero
+unfolding lending no7step no8step
+lending-says o place t mask nonzero e =
+    let a = no6 (o .field) t in
+    let b = no7step (maskAt o place) mask in
+    let d = no8step (nonzeroAt o place) (length nonzero) in
+    let f = no9 (o .field) nonzero in
+    let three : a or b or d ≡ passed = left (a or b or d) f e in
+    record {
+      masks = same (maskAt o place) mask 7 _ (right a b (left (a or b) d three));
+      others = same (nonzeroAt o place) (length nonzero) 8 _ (right (a or b) d three);
+      nonzeros = right (a or b or d) f e;
+    }
+
+-- Step's checks passed
+pub record Going (o : Order) (place : Place) (t : List ℕ) (solution mask : ℕ) (nonzero : List ℕ) : Type 0 where
+  pub sizes : Sizes o
+  pub at : Placed o place (length t) solution
+  pub lent : Supplied o place mask nonzero
+
+pub going : (o : Order) (place : Place) (t : List ℕ) (solution mask : ℕ) (nonzero : List ℕ) → stepOrder o place t solution mask nonzero ≡ passed → Going o place t solution mask nonzero
+unfolding stepOrder
+going o place t solution mask nonzero e =
+    let a = placing o place (length t) solution in
+    let b = lending o place t mask nonzero in
+    let rest : a or (b or no12 o place t) ≡ passed = right (sizes o) _ e in
+    record {
+      sizes = sized o (left (sizes o) _ e);
+      at = placing-says o place (length t) solution (left a _ rest);
+      lent = lending-says o place t mask nonzero (left b _ (right a _ rest));
+    }
+
+-- a place that is a step is one of the list
+pub at-step : (o : Order) (place : Place) (s : Step) → place ≡ At s → placed (o .size) place ≡ true → inList (o .size) s ≡ true
+unfolding placed
+at-step o place s e h = rw e at h
+
+-- 9 passed: no draw is 0
+pub no-zero : (f : ℕ) (nonzero : List ℕ) → no9 f nonzero ≡ passed → (k : ℕ) → k < length nonzero → drawAt (fieldOf f) nonzero k ≡ 0 → ⊥
+unfolding no9 zeroDraw
+no-zero f nonzero e k h =
+    let all : length nonzero ≤ firstPlace (zeroDraw f) nonzero = ltb-false _ _ (not-then _ _ e) in
+    eqb-false _ _ (before-first (zeroDraw f) nonzero k (omega arith))
+
+both-zero : (a b : ℕ) → (a ≡ 0 → b ≡ 0) → (b ≡ 0 → a ≡ 0) → eqb a 0 ≡ eqb b 0
+both-zero a b there back = elim (ℕ-discrete a 0) [
+  | yes e ↦ eq-eqb a 0 e ∙ sym (eq-eqb b 0 (there e))
+  | no n ↦ ne-eqb a 0 n ∙ sym (ne-eqb b 0 (λ e. n (back e)))
+]
+
+-- what the opening of a Scale's pivot asks of the table: its shape, and the pivot's place
+pub shape : (o : Order) → Sizes o → Shape (o .shares) (o .size) (o .size + 1)
+shape o z = record { shares-low = z .two; shares-high = z .four; rows-high = z .most; width-high = omega arith }
+
+pub pivot-cell : (o : Order) (j : ℕ) → inList (o .size) (Scale j) ≡ true → Cell (o .size) (o .size + 1) j j
+pivot-cell o j h =
+    let w = within (o .size) (Scale j) h in
+    record { row-low = w .0; row-high = w .1; column-low = w .0; column-high = omega arith }
+
+-- what an Inversion opens tells whether the pivot of a Scale is 0
+pub pivot-told : (o : Order) (j : ℕ) (t mask nonzero : List ℕ) → inList (o .size) (Scale j) ≡ true → length t ≡ wholeTable o
+    → nonzeroCost o (Scale j) ≤ length nonzero → no9 (o .field) nonzero ≡ passed
+    → eqb (blindedValue (fieldOf (o .field)) nonzero mask (entry (o .shares) (o .size + 1) j j t)) 0 ≡ zeroPivotOf o (Scale j) t
+unfolding zeroPivotOf value nonzeroCost scaleNonzero
+pivot-told o j t mask nonzero listed whole long nines =
+    both-zero _ _
+    (zero-pivot (o .field) (o .shares) (o .size) (o .size + 1) t whole (pivot-cell o j listed) nonzero mask (λ k h. no-zero (o .field) nonzero nines k (omega arith)))
+    (pivot-zero (o .field) (o .shares) (o .size) (o .size + 1) t whole j j nonzero mask)
+
+-- ---- what the work of each call asks for
+
+pub deal-ready : {o : Order} {values : List ℕ} {target mask : ℕ} → Dealing o values target mask
+    → ((2 ≤ o .shares) × (o .shares ≤ 4) × (length values ≤ 9312))
+    × ((target ≡ length values * o .shares) × (length values * (o .shares - 1) ≤ mask))
+unfolding dealDraws
+deal-ready {o} d = (
+  (d .sizes .two, d .sizes .four, rw (d .lent .whole) (entries-small (o .size) (d .sizes .most))),
+  (rw (d .lent .whole) (d .lent .room ∙ whole-entries o), rw (d .lent .whole) (d .drawn)),
+)
+
+pub gather-ready : {o : Order} {t : List ℕ} {target : ℕ} → Gathering o t target
+    → ((2 ≤ o .shares) × (o .shares ≤ 4) × (target ≤ 9312)) × (length t ≡ target * o .shares)
+gather-ready {o} d = (
+  (d .sizes .two, d .sizes .four, rw (d .lent .room) (entries-small (o .size) (d .sizes .most))),
+  rw (d .lent .room) (d .lent .whole ∙ whole-entries o),
+)
+
+pub solve-ready : {o : Order} {t : List ℕ} {solution mask : ℕ} {nonzero : List ℕ} → Solvable o t solution mask nonzero
+    → Sizes o × (((length t ≡ wholeTable o) × (solution ≡ o .size)) × ((fullMask o ≤ mask) × (fullNonzero o ≤ length nonzero)))
+solve-ready d = (d .sizes, ((d .lent .whole, d .lent .room), (d .masks, d .others)))
+
+pub step-ready : {o : Order} {place : Place} {t : List ℕ} {solution mask : ℕ} {nonzero : List ℕ} (s : Step) → place ≡ At s
+    → Going o place t solution mask nonzero
+    → Sizes o × ((inList (o .size) s ≡ true) × (((length t ≡ wholeTable o) × (solution ≡ o .size)) × ((maskCost o s ≤ mask) × (nonzeroCost o s ≤ length nonzero))))
+unfolding maskAt nonzeroAt
+step-ready {o} {place} s e g =
+    let m : maskAt o place ≡ maskCost o s = rw e in
+    let k : nonzeroAt o place ≡ nonzeroCost o s = rw e in (
+      g .sizes,
+      (
+        at-step o place s e (g .at .listed),
+        ((g .at .whole, g .at .room), (omega (arith, g .lent .masks, m), omega (arith, g .lent .others, k))),
+      ),
+    )

@@ -1,0 +1,44 @@
+-- `checks::deal_lent` meets its contract: each check tells what its definition says, and they are joined in its order.
+-- Assumes nothing.
+use borrow.Author.Needs.{needs}
+use Rattle.solver.specs.Refusals.{no7}
+use Rattle.solver.proofs.Verdicts.{ors}
+use Rattle.solver.proofs.checks.deal_lent.Statement.{statement}
+use Rattle.solver.proofs.checks.deal_lent.Tie as tie
+
+deal-draws-requires : tie.Need-deal-draws-requires
+deal-draws-requires c κs = search needs
+
+entry-count-requires : tie.Need-entry-count-requires
+entry-count-requires c κs = search needs
+
+whole-table-requires : tie.Need-whole-table-requires
+whole-table-requires c κs = search needs
+
+buffers-requires : tie.Need-buffers-requires
+buffers-requires c κs = search needs
+
+refuse-if-requires : tie.Need-refuse-if-requires
+refuse-if-requires c κs = search needs
+
+or-else-requires : tie.Need-or-else-requires
+or-else-requires c κs = search needs
+
+returns : tie.Need-returns
+unfolding no7
+returns c =
+    rw (← (c .before .before .before .before .before .deal-draws .ensures))
+    (rw (← (c .before .before .before .before .entry-count .ensures .0), ← (c .before .before .before .whole-table .ensures))
+    (ors (c .or-else .ensures) (c .before .before .buffers .ensures) (c .before .refuse-if .ensures)))
+
+pub deal-lent-spec : {M : Type 1} → statement M
+deal-lent-spec =
+    tie.close
+    (tie.spec
+    deal-draws-requires
+    entry-count-requires
+    whole-table-requires
+    buffers-requires
+    refuse-if-requires
+    or-else-requires
+    returns)

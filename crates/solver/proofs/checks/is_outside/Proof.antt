@@ -1,0 +1,17 @@
+-- `checks::is_outside` meets its contract: the first test alone decides, or the second does.
+-- Assumes nothing.
+use borrow.Author.Tests.{lt-ltb, le-ltb}
+use Rattle.solver.specs.Refusals.{outside}
+use Rattle.solver.proofs.checks.is_outside.Statement.{statement}
+use Rattle.solver.proofs.checks.is_outside.Tie as tie
+
+returns : tie.Need-returns
+unfolding outside
+returns c = simp (lt-ltb _ _ (c .if1 .taken))
+
+returns-2 : tie.Need-returns-2
+unfolding outside
+returns-2 c = simp (le-ltb _ _ (c .if1 .left))
+
+pub is-outside-spec : {M : Type 1} → statement M
+is-outside-spec = tie.close (tie.spec returns returns-2)

@@ -1,0 +1,242 @@
+// The public calls: start, step, solve, deal, gather, and the counts of an order. Stands on walk.
+// The entry calls are `start`, `counts`, `deal`, `gather`, `step` and `solve`: each takes any numbers, tables and tapes, does all its own
+// checking, and promises by one equation its answer and every lent byte, refusals included.
+mod checks;
+
+ghost use mathlib.Core.Path.{_≡_};
+ghost use Rattle.walk.specs.Act.{held};
+ghost use Rattle.solver.specs.Calls.{after, gives, order, startSays, startCall, countSays, countsCall, fillSays, dealCall, gatherCall, solveSays, solveCall, stepSays, stepCall, tells, lent};
+use checks::Verdict;
+use course::Counts;
+use course::Order;
+use course::Place;
+use course::Progress;
+use course::Step;
+use walk::Ending;
+
+// 01's table of refusals, with each one's detail.
+pub enum Refusal {
+    // 1: the field's number
+    Field(u64),
+    // 2: the number of shares
+    Shares(u64),
+    // 3: the size
+    Size(u64),
+    // 4 and 5: the length wanted
+    Input(usize),
+    Target(usize),
+    // 6: the first place
+    Entry(usize),
+    // 7 and 8: the length wanted
+    MaskTape(usize),
+    NonzeroTape(usize),
+    // 9: the first place
+    ZeroDraw(usize),
+    // 10 and 11
+    OffList,
+    Ended,
+    // 12: j
+    ZeroPivot(u64),
+}
+
+pub enum Starting {
+    Fresh(Progress),
+    Refused(Refusal),
+}
+
+pub enum Counting {
+    Counted(Counts),
+    Refused(Refusal),
+}
+
+pub enum Filling {
+    Filled,
+    Refused(Refusal),
+}
+
+pub enum Solving {
+    Solved(Counts),
+    Stopped(u64, Counts),
+    Refused(Refusal),
+}
+
+pub enum Stepping {
+    Moved,
+    Opened(u64, u8),
+    Stopped(u64),
+    Done(u8),
+    Refused(Refusal),
+}
+
+// A step's answer, and the record at the following place; on a refusal the record as it was.
+pub struct Stepped {
+    pub answer: Stepping,
+    pub next: Progress,
+}
+
+// A fresh record, or refusal 1, 2, 3.
+pub fn start(field: u64, shares: u64, size: u64) -> Starting
+    ensures { λ r. ⌜ after (startSays r) tt ≡ startCall (order field shares size) ⌝ }
+{
+    let o = Order {
+        field,
+        shares,
+        size,
+    };
+    match checks::sizes(o) {
+        Verdict::Refuse(r) => Starting::Refused(r),
+        Verdict::Pass => Starting::Fresh(Progress::start(o)),
+    }
+}
+
+// The steps, mask draws and nonzero draws of a full solve, or refusal 1, 2, 3.
+pub fn counts(field: u64, shares: u64, size: u64) -> Counting
+    ensures { λ r. ⌜ after (countSays r) tt ≡ countsCall (order field shares size) ⌝ }
+{
+    let o = Order {
+        field,
+        shares,
+        size,
+    };
+    match checks::sizes(o) {
+        Verdict::Refuse(r) => Counting::Refused(r),
+        Verdict::Pass => Counting::Counted(course::full_counts(o)),
+    }
+}
+
+// Values in row order into a table of shares.
+pub fn deal(
+    field: u64,
+    shares: u64,
+    size: u64,
+    values: &[u8],
+    table: &mut [u8],
+    mask: &[u8],
+) -> Filling
+    ensures { λ r. ⌜ after (fillSays r) (now (table .exit)) ≡ dealCall (order field shares size) (now (values .entry)) (now (mask .entry)) (now (table .entry)) ⌝ }
+{
+    let o = Order {
+        field,
+        shares,
+        size,
+    };
+    match checks::deal(o, values, table.len(), mask.len()) {
+        Verdict::Refuse(r) => Filling::Refused(r),
+        Verdict::Pass => {
+            walk::deal(field, shares as usize, table, values, mask);
+            Filling::Filled
+        }
+    }
+}
+
+// The values of a table of shares, in row order.
+pub fn gather(field: u64, shares: u64, size: u64, table: &[u8], values: &mut [u8]) -> Filling
+    ensures { λ r. ⌜ after (fillSays r) (now (values .exit)) ≡ gatherCall (order field shares size) (now (table .entry)) (now (values .entry)) ⌝ }
+{
+    let o = Order {
+        field,
+        shares,
+        size,
+    };
+    match checks::gather(o, table, values.len()) {
+        Verdict::Refuse(r) => Filling::Refused(r),
+        Verdict::Pass => {
+            walk::gather(field, shares as usize, table, values);
+            Filling::Filled
+        }
+    }
+}
+
+fn ending(e: Ending) -> Solving
+    ensures { λ r. ⌜ solveSays r ≡ gives e ⌝ }
+{
+    match e {
+        Ending::Solved(c) => Solving::Solved(c),
+        Ending::Stopped(j, c) => Solving::Stopped(j, c),
+    }
+}
+
+// The whole solve.
+pub fn solve(
+    field: u64,
+    shares: u64,
+    size: u64,
+    table: &mut [u8],
+    solution: &mut [u8],
+    mask: &[u8],
+    nonzero: &[u8],
+) -> Solving
+    ensures { λ r. ⌜ after (solveSays r) (held (now (table .exit)) (now (solution .exit))) ≡ solveCall (order field shares size) (held (now (table .entry)) (now (solution .entry))) (now (mask .entry)) (now (nonzero .entry)) ⌝ }
+{
+    let o = Order {
+        field,
+        shares,
+        size,
+    };
+    match checks::solve(o, &table[..], solution.len(), mask.len(), nonzero) {
+        Verdict::Refuse(r) => Solving::Refused(r),
+        Verdict::Pass => ending(walk::solve(o, table, solution, mask, nonzero)),
+    }
+}
+
+// What a step that opened x tells.
+fn answer(s: Step, x: u8) -> Stepping
+    ensures { λ r. ⌜ stepSays r ≡ gives (tells s x) ⌝ }
+{
+    match s {
+        Step::Mix { j: _, k: _ } => Stepping::Moved,
+        Step::Check(j) => {
+            if x == 1 {
+                Stepping::Stopped(j)
+            } else {
+                Stepping::Moved
+            }
+        }
+        Step::Scale(_) => Stepping::Moved,
+        Step::Clear { j: _, k: _ } => Stepping::Moved,
+        Step::Open(j) => {
+            if j == 1 {
+                Stepping::Done(x)
+            } else {
+                Stepping::Opened(j, x)
+            }
+        }
+    }
+}
+
+// One step: the one at the record's place, lent exactly its draws.
+pub fn step(
+    p: Progress,
+    table: &mut [u8],
+    solution: &mut [u8],
+    mask: &[u8],
+    nonzero: &[u8],
+) -> Stepped
+    ensures { λ r. ⌜ after (stepSays (r .answer)) (lent (r .next) (held (now (table .exit)) (now (solution .exit)))) ≡ stepCall p (held (now (table .entry)) (now (solution .entry))) (now (mask .entry)) (now (nonzero .entry)) ⌝ }
+{
+    let o = Order {
+        field: p.field,
+        shares: p.shares,
+        size: p.size,
+    };
+    let place = p.place;
+    match checks::step(o, place, &table[..], solution.len(), mask, nonzero) {
+        Verdict::Refuse(r) => Stepped {
+            answer: Stepping::Refused(r),
+            next: p,
+        },
+        Verdict::Pass => {
+            let Place::At(s) = place else {
+                return Stepped {
+                    answer: Stepping::Moved,
+                    next: p,
+                };
+            };
+            let x = walk::act(o, s, table, solution, mask, nonzero);
+            Stepped {
+                answer: answer(s, x),
+                next: p.next(x),
+            }
+        }
+    }
+}

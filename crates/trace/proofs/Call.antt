@@ -1,0 +1,85 @@
+-- What one step call leaves a host with: all as it was, where it is refused; else the work of the record's step, and the next record.
+-- Assumes nothing.
+use mathlib.Core.List.{append-nil}
+use mathlib.Core.Logic.{_⊎_, inl, inr}
+use mathlib.Core.Path.{_≡_, refl}
+use Prim.Native.Nat.{ℕ}
+use native.Mathlib.Nat.{add-zero}
+use native.Mathlib.Omega.{arith}
+use lib.ListN.{length}
+use Rattle.course.specs.declared.Step.{Step}
+use Rattle.course.specs.declared.Place.{Place}
+use Rattle.course.specs.declared.Place.the-variants.{At, Stopped, Done}
+use Rattle.solver.specs.Told.{Told, passed, refused, Line}
+use Rattle.solver.specs.Refusals.{placed, ended, maskAt, nonzeroAt, stepOrder}
+use Rattle.solver.specs.Calls.{refuses, call, stepDoes, stepCall}
+use Rattle.trace.specs.Trace.{Beside, Host, called, hostAfter, orderIn, Refused, Accepted}
+use Rattle.trace.proofs.Verdict.{Passed, passes}
+
+module _ (h : Host) (c : Beside) where
+  -- what the call's checks say
+  abbrev pub verdict : Told
+  verdict =
+      stepOrder (orderIn h) (h .progress .place) (h .table) (length (c .solution)) (length (c .mask)) (c .nonzero)
+
+  refused-says : (l : Line) → verdict ≡ refused l → called h c .says ≡ refuses l
+  unfolding called stepCall call
+  refused-says l e = rw e
+
+  refused-call : (l : Line) → verdict ≡ refused l → Refused h c
+  unfolding called stepCall call hostAfter
+  refused-call l e =
+      record {
+        line = l;
+        says = refused-says l e;
+        left = rw e;
+        after = rw (e, add-zero, append-nil (h .mask), append-nil (h .nonzero));
+      }
+
+  accepted-at : (p : Place) → h .progress .place ≡ p → Passed (orderIn h) p (h .table) (length (c .mask)) (length (c .nonzero))
+      → verdict ≡ passed → (s : Step) × Accepted h c s
+  unfolding called stepCall call stepDoes hostAfter placed ended maskAt nonzeroAt
+  accepted-at (At s) e w v = (
+    s,
+    record {
+      place = e;
+      listed = w .listed;
+      table = w .table;
+      mask = w .mask;
+      nonzero = w .nonzero;
+      says = rw (v, e);
+      after = rw (v, e);
+    },
+  )
+  accepted-at (Stopped j) e w v =
+      let g = w .going in
+      let z : _≡_ {A = ℕ} 0 1 = cc in
+      absurd (let n : ⊥ = omega arith in n)
+  accepted-at Done e w v =
+      let g = w .going in
+      let z : _≡_ {A = ℕ} 0 1 = cc in
+      absurd (let n : ⊥ = omega arith in n)
+
+  accepted-call : verdict ≡ passed → (s : Step) × Accepted h c s
+  accepted-call e =
+      accepted-at (h .progress .place) refl
+      (passes (orderIn h) (h .progress .place) (h .table) (length (c .solution)) (length (c .mask)) (c .nonzero) e) e
+
+  by-verdict : (v : Told) → verdict ≡ v → Refused h c ⊎ ((s : Step) × Accepted h c s)
+  by-verdict passed e = inr (accepted-call e)
+  by-verdict (refused l) e = inl (refused-call l e)
+
+  -- there is no other call
+  pub each-call : Refused h c ⊎ ((s : Step) × Accepted h c s)
+  each-call = by-verdict verdict refl
+
+  refusal-by : (v : Told) → verdict ≡ v → (l : Line) → called h c .says ≡ refuses l → v ≡ refused l
+  refusal-by passed e l g =
+      let a = accepted-call e .1 .says in
+      let z : _≡_ {A = ℕ} 0 1 = cc in
+      absurd (let n : ⊥ = omega arith in n)
+  refusal-by (refused k) e l g = let r = refused-says k e in cc
+
+  -- what a call is refused with is what its checks say
+  pub refusal : (l : Line) → called h c .says ≡ refuses l → verdict ≡ refused l
+  refusal l g = refusal-by verdict refl l g

@@ -1,0 +1,112 @@
+-- Demand 3: what a host does by step calls, however many and with refused ones among them, and the whole solve are one and the same. `o` is
+-- an order of right sizes, t any first table, and cs any calls from a record of Start.
+-- Assumes nothing.
+use mathlib.Core.Bool.{true}
+use mathlib.Core.List.{List, [], _∷_, _++_}
+use mathlib.Core.Logic.{_⊎_}
+use mathlib.Core.Path.{_≡_, refl, ap, _∙_}
+use Prim.Native.Nat.{ℕ, _<_}
+use native.Mathlib.Omega.{arith}
+use lib.ListN.{length}
+use borrow.Author.Tests.{le-ltb}
+use Rattle.course.specs.declared.Step.{Step}
+use Rattle.course.specs.declared.Place.{Place}
+use Rattle.course.specs.declared.Place.the-variants.{At, Stopped, Done}
+use Rattle.course.specs.declared.Order.{Order}
+use Rattle.course.specs.StepList.{Sizes, stepList}
+use Rattle.course.proofs.Along.{Along, first, none, along-in, stop-in, counted-done, counted-stop}
+use Rattle.walk.specs.Act.{held}
+use Rattle.walk.specs.Walk.{Course, running, walk, fresh, conclude, solved}
+use Rattle.solver.specs.Told.{passed}
+use Rattle.solver.specs.Refusals.{outside, placed, solveOrder}
+use Rattle.solver.specs.Calls.{call, solveDoes, solveCall}
+use Rattle.trace.specs.Trace.{Beside, Host, begin, hostAfter, drive, orderIn, Refused, Accepted, countsIn, Counted, Begins, Agrees, Never}
+use Rattle.trace.proofs.Verdict.{never-given}
+use Rattle.trace.proofs.Call.{each-call, refusal}
+use Rattle.trace.proofs.Walked.{courseOf, walk-append, walk-stopped}
+use Rattle.trace.proofs.Reached.{tallyOf, Reached, reached, order-kept}
+
+-- a run is its calls one by one
+last-call : (h : Host) (cs : List Beside) (c : Beside) → drive h (cs ++ (c ∷ [])) ≡ hostAfter (drive h cs) c
+unfolding drive
+last-call h [] c = refl
+last-call h (b ∷ cs) c = last-call (hostAfter h b) cs c
+
+-- what a host that is reached has, by its place
+module _ (o : Order) (t : List ℕ) (h : Host) (g : Reached o t h) where
+  counted-at : (p : Place) → h .progress .place ≡ p → Counted o (countsIn h) p
+  counted-at (At s) e =
+      let f = first (o .size) s (g .along .rest) (rw e at (g .along .leads)) in
+      (g .steps, f .0, g .whole (s ∷ f .0) (rw e (refl, f .2)), g .counts)
+  counted-at (Stopped j) e =
+      let a : Along o (Stopped j) (h .steps) (length (h .mask)) (length (h .nonzero)) = rw e at (g .along) in
+      let w = stop-in o a in
+      (w .0, w .1, counted-stop o a)
+  counted-at Done e = counted-done o (rw e at (g .along))
+
+  placed-at : (p : Place) → h .progress .place ≡ p → placed (o .size) p ≡ true
+  unfolding placed outside
+  placed-at (At s) e = along-in o (rw e at (g .along))
+  placed-at (Stopped j) e =
+      let w = stop-in o (rw e at (g .along)) in
+      rw (le-ltb j 1 (w .0), le-ltb (o .size) j (w .1))
+  placed-at Done e = refl
+
+  module _ (x ms zs : List ℕ) (dm : Begins o (h .mask) ms) (dz : Begins o (h .nonzero) zs) where
+    abbrev goal : Course
+    goal = walk o ms zs (stepList (o .size)) (running (fresh (held t x)))
+
+    -- the solve goes on from where the host is
+    onward : (v : List ℕ) × (goal ≡ walk o ms zs (g .along .rest) (courseOf (h .progress .place) (tallyOf h v)))
+    onward =
+        let r = g .solve x ms zs dm dz in (
+          r .0,
+          ap (λ (l : List Step). walk o ms zs l (running (fresh (held t x)))) (g .whole (g .along .rest) (g .along .leads))
+              ∙ walk-append o ms zs (g .steps) (g .along .rest) (running (fresh (held t x)))
+              ∙ ap (walk o ms zs (g .along .rest)) (r .1),
+        )
+
+    ends-at : (p : Place) → h .progress .place ≡ p → (v : List ℕ)
+        → goal ≡ walk o ms zs (g .along .rest) (courseOf (h .progress .place) (tallyOf h v)) → Agrees h (solveDoes (solved o ms zs (held t x))) p
+    unfolding solved conclude walk
+    ends-at (At s) e v w = tt
+    ends-at (Stopped j) e v w = rw (w, e, walk-stopped o ms zs (g .along .rest) j (tallyOf h v)) (refl, refl)
+    ends-at Done e v w = rw (w, e, none (o .size) (g .along .rest) (rw e at (g .along .leads))) (refl, refl)
+
+module _ (o : Order) (sized : Sizes o) (t : List ℕ) (cs : List Beside) where
+  abbrev d : Host
+  d = drive (begin o t) cs
+
+  -- 1. One call more, whatever is lent to it: it is refused and changes nothing, or the step of the record's place is done
+  pub call-by-call : (c : Beside)
+      → (drive (begin o t) (cs ++ (c ∷ [])) ≡ hostAfter d c) × (orderIn d ≡ o) × (Refused d c ⊎ ((s : Step) × Accepted d c s))
+  call-by-call c = (last-call (begin o t) cs c, order-kept o sized t cs, each-call d c)
+
+  -- 2. The accepted calls and the draws lent to them are 01's sums
+  pub counted : Counted o (countsIn d) (d .progress .place)
+  counted = counted-at o t d (reached o sized t cs) (d .progress .place) refl
+
+  module _ (x ms zs : List ℕ) (dm : Begins o (d .mask) ms) (dz : Begins o (d .nonzero) zs) where
+    -- 3. The whole solve of the same first table, on tapes that begin with the same draws, comes to the same end
+    pub agrees : Agrees d (solveDoes (solved o ms zs (held t x))) (d .progress .place)
+    agrees =
+        let g = reached o sized t cs in
+        let r = onward o t d g x ms zs dm dz in
+        ends-at o t d g x ms zs dm dz (d .progress .place) refl (r .0) (r .1)
+
+    pub agrees-call : solveOrder o t (length x) (length ms) zs ≡ passed → Agrees d (solveCall o (held t x) ms zs) (d .progress .place)
+    unfolding solveCall call
+    agrees-call e = rw e agrees
+
+  -- 4. Refusals 10 and 12 are not met
+  never : (k : ℕ) → 9 < k → (11 ≡ k → ⊥) → (c : Beside) → Never k d c
+  never k late not-11 c l e =
+      let g = reached o sized t cs in
+      never-given k late not-11 (orderIn d) (d .progress .place) (d .table) (length (c .solution)) (length (c .mask)) (c .nonzero)
+      (rw order-kept (placed-at o t d g (d .progress .place) refl)) (rw order-kept (g .firm)) .never l (refusal d c l e)
+
+  pub never-off-list : (c : Beside) → Never 10 d c
+  never-off-list c = never 10 (omega arith) (λ e. omega arith) c
+
+  pub never-zero-pivot : (c : Beside) → Never 12 d c
+  never-zero-pivot c = never 12 (omega arith) (λ e. omega arith) c

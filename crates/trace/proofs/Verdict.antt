@@ -1,0 +1,114 @@
+-- What a passed step order says of what was lent, and which numbers an order cannot give.
+-- Assumes nothing.
+use mathlib.Core.Bool.{Bool, true, false, not, _&&_}
+use mathlib.Core.List.{List}
+use mathlib.Core.Path.{_≡_, refl, ap}
+use Prim.Native.Nat.{ℕ, _<_, _≤_}
+use native.Mathlib.Omega.{arith}
+use lib.Dec.{eqb}
+use lib.ListN.{length}
+use borrow.Author.Tests.{eqb-true}
+use Rattle.course.specs.declared.Place.{Place}
+use Rattle.course.specs.declared.Order.{Order}
+use Rattle.solver.specs.Told.{Told, passed, refused, Line, refuse, _or_}
+use Rattle.solver.specs.Refusals.{differs, outside, anyPlace, tooLarge, zeroDraw, wholeTable, placed, ended, maskAt, nonzeroAt, zeroPivot, no1, no2, no3, no4, no5, no6, no7step, no8step, no9, no10, no11, no12, sizes, placing, lending, stepOrder}
+
+both : (a b : Told) → a or b ≡ passed → (a ≡ passed) × (b ≡ passed)
+unfolding _or_
+both passed b e = (refl, e)
+both (refused l) b e = let z : _≡_ {A = ℕ} 0 1 = cc in absurd (let n : ⊥ = omega arith in n)
+
+unmet : (k : ℕ) (test : Bool) (d : List ℕ) → refuse k test d ≡ passed → test ≡ false
+unmet k true d e = let z : _≡_ {A = ℕ} 0 1 = cc in absurd (let n : ⊥ = omega arith in n)
+unmet k false d e = refl
+
+not-false : (b : Bool) → not b ≡ false → b ≡ true
+not-false true e = refl
+not-false false e = cc
+
+alike : (a b : ℕ) → differs a b ≡ false → a ≡ b
+alike a b e = eqb-true a b (not-false (eqb a b) e)
+
+-- what was lent to a call that passed: a table t, and parts of the tapes of a and b draws
+pub record Passed (o : Order) (p : Place) (t : List ℕ) (a b : ℕ) : Type 0 where
+  pub table : length t ≡ wholeTable o
+  pub listed : placed (o .size) p ≡ true
+  pub going : ended p ≡ false
+  pub mask : a ≡ maskAt o p
+  pub nonzero : b ≡ nonzeroAt o p
+
+module _ (o : Order) (p : Place) (t : List ℕ) (solution mask : ℕ) (nonzero : List ℕ) where
+  pub passes : stepOrder o p t solution mask nonzero ≡ passed → Passed o p t mask (length nonzero)
+  unfolding stepOrder placing lending no4 no7step no8step no10 no11
+  passes e =
+      let later = both _ _ (both _ _ e .1) in
+      let place = both _ _ (later .0) in
+      let found = both _ _ (place .0) in
+      let lent = both _ _ (both _ _ (later .1) .0) in
+      let tapes = both _ _ (lent .0) in
+      record {
+        table = alike (length t) (wholeTable o) (unmet _ _ _ (both _ _ (found .0) .0));
+        listed = not-false _ (unmet _ _ _ (found .1));
+        going = unmet _ _ _ (place .1);
+        mask = alike mask (maskAt o p) (unmet _ _ _ (both _ _ (tapes .0) .1));
+        nonzero = alike (length nonzero) (nonzeroAt o p) (unmet _ _ _ (tapes .1));
+      }
+
+-- an order that does not give refusal k
+pub record Without (k : ℕ) (v : Told) : Type 0 where
+  pub never : (l : Line) → v ≡ refused l → l .number ≡ k → ⊥
+
+without-or : {k : ℕ} (a : Told) {b : Told} → Without k a → Without k b → Without k (a or b)
+unfolding _or_
+without-or passed g h = h
+without-or (refused l) g h = g
+
+other : {k : ℕ} (i : ℕ) (test : Bool) (d : List ℕ) → (i ≡ k → ⊥) → Without k (refuse i test d)
+other i true d n = record { never = λ l e g. n (cc) }
+other i false d n = record { never = λ l e g. let z : _≡_ {A = ℕ} 0 1 = cc in omega arith }
+
+without-unmet : (k i : ℕ) {test : Bool} (d : List ℕ) → test ≡ false → Without k (refuse i test d)
+without-unmet k i d e =
+    rw e (record { never = λ l e g. let z : _≡_ {A = ℕ} 0 1 = cc in omega arith })
+
+-- a refusal behind 9 that is not 11: only 10 and 12 can give it
+module _ (k : ℕ) (late : 9 < k) (not-11 : 11 ≡ k → ⊥) (o : Order) (p : Place) (t : List ℕ) (solution mask : ℕ) (nonzero : List ℕ) where
+  early : (i : ℕ) (test : Bool) (d : List ℕ) → i ≤ 9 → Without k (refuse i test d)
+  early i test d h = other i test d (λ e. omega arith)
+
+  sizes-without : Without k (sizes o)
+  unfolding sizes no1 no2 no3
+  sizes-without =
+      without-or (no1 (o .field) or no2 (o .shares))
+      (without-or (no1 (o .field)) (early 1 (differs (o .field) 16 && differs (o .field) 256) _ (omega arith)) (early 2 (outside 2 4 (o .shares)) _ (omega arith)))
+      (early 3 (outside 1 96 (o .size)) _ (omega arith))
+
+  placing-without : Without k (no10 (o .size) p) → Without k (placing o p (length t) solution)
+  unfolding placing no4 no5 no11
+  placing-without ten =
+      let four : Told = no4 (wholeTable o) (length t) in
+      let five : Told = no5 (o .size) solution in
+      without-or (four or five or no10 (o .size) p)
+      (without-or (four or five)
+      (without-or four (early 4 (differs (length t) (wholeTable o)) _ (omega arith)) (early 5 (differs solution (o .size)) _ (omega arith))) ten)
+      (other 11 (ended p) _ not-11)
+
+  lending-without : Without k (lending o p t mask nonzero)
+  unfolding lending no6 no7step no8step no9
+  lending-without =
+      let six : Told = no6 (o .field) t in
+      let seven : Told = no7step (maskAt o p) mask in
+      let eight : Told = no8step (nonzeroAt o p) (length nonzero) in
+      without-or (six or seven or eight)
+      (without-or (six or seven)
+      (without-or six (early 6 (anyPlace (tooLarge (o .field)) t) _ (omega arith)) (early 7 (differs mask (maskAt o p)) _ (omega arith)))
+      (early 8 (differs (length nonzero) (nonzeroAt o p)) _ (omega arith)))
+      (early 9 (anyPlace (zeroDraw (o .field)) nonzero) _ (omega arith))
+
+  -- where the place is one of the list and there is a pivot, it is not given
+  pub never-given : placed (o .size) p ≡ true → zeroPivot o p t ≡ false → Without k (stepOrder o p t solution mask nonzero)
+  unfolding stepOrder no10 no12
+  never-given in-list pivot =
+      without-or (sizes o) sizes-without
+      (without-or (placing o p (length t) solution) (placing-without (without-unmet k 10 _ (ap not in-list)))
+      (without-or (lending o p t mask nonzero) lending-without (without-unmet k 12 _ pivot)))

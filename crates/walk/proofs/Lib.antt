@@ -1,0 +1,4 @@
+pub mod Acted
+pub mod Walked
+pub mod Going
+pub mod Dealt

@@ -1,0 +1,169 @@
+-- `walk::act` meets its contract: each arm is the step's line of the definition, and what the work asks follows from the step being one of the list.
+-- Assumes nothing.
+use native.Mathlib.Omega.{arith}
+use Rattle.course.specs.declared.Step.the-variants.{Mix, Check, Scale, Clear, Open}
+use Rattle.course.specs.StepList.{maskCost, nonzeroCost}
+use Rattle.course.proofs.Within.{within}
+use Rattle.walk.specs.Act.{opened, acted}
+use Rattle.walk.proofs.Acted.{square, pivot, under, last}
+use borrow.Author.Needs.{needs}
+use Rattle.walk.proofs.act.Statement.{statement}
+use Rattle.walk.proofs.act.Tie as tie
+
+add-w : tie.Need-add-w
+add-w c = search needs
+
+enum-known-s : tie.Need-enum-known-s
+enum-known-s c = search needs
+
+mix-requires : tie.Need-mix-requires
+unfolding maskCost
+mix-requires c κs =
+    let s = c .before .before in
+    let p = s .before .before .before .before .before .before .pre in
+    let w = within _ (Mix (s .s .given .0 .0) (s .s .given .0 .1 .0)) (rw (s .s .given .1) at (p .1 .0)) in
+    (square (p .0), ((pivot (w .0) (omega arith), under (w .0) (w .1) (w .2)), (p .1 .1 .0 .0, rw (s .s .given .1) at (p .1 .1 .1 .0))))
+
+enum-known-s-2 : tie.Need-enum-known-s-2
+enum-known-s-2 c = search needs
+
+check-requires : tie.Need-check-requires
+unfolding maskCost
+check-requires c κs =
+    let s = c .before .before in
+    let p = s .before .before .before .before .before .before .pre in
+    let w = within _ (Check (s .s2 .given .0 .0)) (rw (s .s2 .given .1) at (p .1 .0)) in
+    (square (p .0), (pivot (w .0) (w .1), (p .1 .1 .0 .0, rw (s .s2 .given .1) at (p .1 .1 .1 .0))))
+
+enum-known-s-3 : tie.Need-enum-known-s-3
+enum-known-s-3 c = search needs
+
+scale-requires : tie.Need-scale-requires
+unfolding maskCost nonzeroCost
+scale-requires c κs =
+    let s = c .before .before in
+    let p = s .before .before .before .before .before .before .pre in
+    let w = within _ (Scale (s .s3 .given .0 .0)) (rw (s .s3 .given .1) at (p .1 .0)) in
+    (square (p .0), (pivot (w .0) (w .1), (p .1 .1 .0 .0, rw (s .s3 .given .1) at (p .1 .1 .1 .0), rw (s .s3 .given .1) at (p .1 .1 .1 .1))))
+
+enum-known-s-4 : tie.Need-enum-known-s-4
+enum-known-s-4 c = search needs
+
+clear-requires : tie.Need-clear-requires
+unfolding maskCost
+clear-requires c κs =
+    let s = c .before .before in
+    let p = s .before .before .before .before .before .before .pre in
+    let w = within _ (Clear (s .s4 .given .0 .0) (s .s4 .given .0 .1 .0)) (rw (s .s4 .given .1) at (p .1 .0)) in
+    (square (p .0), ((pivot (w .0) (omega arith), under (w .0) (w .1) (w .2)), (p .1 .1 .0 .0, rw (s .s4 .given .1) at (p .1 .1 .1 .0))))
+
+enum-known-s-5 : tie.Need-enum-known-s-5
+enum-known-s-5 c = search needs
+
+open-requires : tie.Need-open-requires
+unfolding maskCost
+open-requires c κs =
+    let s = c .before .before in
+    let p = s .before .before .before .before .before .before .pre in
+    let w = within _ (Open (s .s5 .given .0 .0)) (rw (s .s5 .given .1) at (p .1 .0)) in
+    (square (p .0), (last (w .0) (w .1), (p .1 .1 .0 .0, rw (s .s5 .given .1) at (p .1 .1 .1 .0))))
+
+sub-solution : tie.Need-sub-solution
+sub-solution c =
+    let s = c .before .before .before in
+    let p = s .before .before .before .before .before .before .pre in
+    let w = within _ (Open (s .s5 .given .0 .0)) (rw (s .s5 .given .1) at (p .1 .0)) in
+    omega arith
+
+slice-write-solution : tie.Need-slice-write-solution
+slice-write-solution c =
+    let s = c .before .before .before in
+    let p = s .before .before .before .before .before .before .pre in
+    let w = within _ (Open (s .s5 .given .0 .0)) (rw (s .s5 .given .1) at (p .1 .0)) in
+    omega (arith, p .1 .1 .0 .1)
+
+lift-requires : tie.Need-lift-requires
+lift-requires c κs =
+    let s = c .before .before .before .before in
+    let p = s .before .before .before .before .before .before .pre in
+    let w = within _ (Open (s .s5 .given .0 .0)) (rw (s .s5 .given .1) at (p .1 .0)) in
+    (square (p .0), (pivot (w .0) (w .1), p .1 .1 .0 .0))
+
+same-length : tie.Need-same-length
+same-length c = search needs
+
+returns : tie.Need-returns
+unfolding opened acted
+returns c =
+    let e = c .before .before .before .before .before .s .given .1 in
+    (rw e, rw (e, c .before .before .mix .ensures))
+
+same-length-2 : tie.Need-same-length-2
+same-length-2 c = search needs
+
+returns-2 : tie.Need-returns-2
+unfolding opened acted
+returns-2 c =
+    let e = c .before .before .before .s2 .given .1 in
+    (rw (e, c .check .ensures), rw e)
+
+same-length-3 : tie.Need-same-length-3
+same-length-3 c = search needs
+
+returns-3 : tie.Need-returns-3
+unfolding opened acted
+returns-3 c =
+    let e = c .before .before .before .before .before .s3 .given .1 in
+    (rw e, rw (e, c .before .before .scale .ensures))
+
+same-length-4 : tie.Need-same-length-4
+same-length-4 c = search needs
+
+returns-4 : tie.Need-returns-4
+unfolding opened acted
+returns-4 c =
+    let e = c .before .before .before .before .before .s4 .given .1 in
+    (rw e, rw (e, c .before .before .clear .ensures))
+
+same-length-5 : tie.Need-same-length-5
+same-length-5 c = search needs
+
+same-length-6 : tie.Need-same-length-6
+same-length-6 c = search needs
+
+returns-5 : tie.Need-returns-5
+unfolding opened acted
+returns-5 c =
+    let e = c .before .before .before .before .before .before .before .s5 .given .1 in
+    let x = c .before .before .before .before .«open» .ensures in
+    (rw (e, x), rw (e, c .before .before .lift .ensures, x))
+
+pub act-spec : {M : Type 1} → statement M
+act-spec =
+    tie.close
+    (tie.spec
+    add-w
+    enum-known-s
+    mix-requires
+    enum-known-s-2
+    check-requires
+    enum-known-s-3
+    scale-requires
+    enum-known-s-4
+    clear-requires
+    enum-known-s-5
+    open-requires
+    sub-solution
+    slice-write-solution
+    lift-requires
+    same-length
+    returns
+    same-length-2
+    returns-2
+    same-length-3
+    returns-3
+    same-length-4
+    returns-4
+    same-length-5
+    same-length-6
+    returns-5)

@@ -1,0 +1,206 @@
+-- `walk::solve` meets its contract. The loop's invariant: the solve is somewhere along the list, and the walk of the steps left from here is the whole walk.
+-- The measure is how many steps are left. Assumes nothing.
+use mathlib.Core.List.{List}
+use mathlib.Core.Path.{_≡_, refl, sym, ap, _∙_}
+use Prim.Native.Nat.{ℕ, _≤_, _<_, _+_, _-_}
+use native.Mathlib.Omega.{arith}
+use lib.ListN.{length, length-drop, length-replicate}
+use Rattle.sharing.proofs.Loops.{rest}
+use Rattle.course.specs.declared.Order.{Order}
+use Rattle.course.specs.declared.Progress.{Progress}
+use Rattle.course.specs.declared.Place.the-variants.{At}
+use Rattle.course.specs.StepList.{stepList, maskCost, nonzeroCost}
+use Rattle.course.specs.Next.{startOf, nextOf}
+use Rattle.course.proofs.Sums.{list-small}
+use Rattle.course.proofs.Along.{along-in, room-along, next-place}
+use Rattle.walk.specs.Act.{Held, held}
+use Rattle.walk.specs.Walk.{Tally, Course, running, walk, fresh, conclude, solved}
+use Rattle.walk.proofs.Acted.{Lengths, acted-length}
+use Rattle.walk.proofs.Going.{Going, tally, begin, moved, ended, halted}
+use borrow.Author.Needs.{needs}
+use Rattle.walk.proofs.solve.Statement.{statement}
+use Rattle.walk.proofs.solve.Tie as tie
+
+-- what the solve comes to
+abbrev end : Order → List ℕ → List ℕ → Held → Course
+end o ms zs h = walk o ms zs (stepList (o .size)) (running (fresh h))
+
+record Turning (o : Order) (ms zs : List ℕ) (h : Held) (p : Progress) (t : Tally) : Type 0 where
+  size : p .size ≡ o .size
+  lengths : Lengths o (t .left)
+  going : Going o ms zs (end o ms zs h) (p .place) t
+
+abbrev Inv-loop : tie.InvT-loop
+Inv-loop o table₀ solution₀ mask nonzero p₀ steps₀ at₀ at2₀ table solution p steps at at2 = Turning o mask nonzero (held table₀ solution₀) p (tally (held table solution) steps at at2)
+
+abbrev μ-loop : tie.MeasureT-loop
+μ-loop o table₀ solution₀ mask nonzero p₀ steps₀ at₀ at2₀ table solution p steps at at2 = length (stepList (o .size)) - steps
+
+-- what is known at a step
+at-step : (c : tie.After-q Inv-loop μ-loop) → let a = c .before .before .before .before .before .before .before .before .args in let l = c .before .before .loop in
+    Going (a .o) (a .mask .now) (a .nonzero .now) (end (a .o) (a .mask .now) (a .nonzero .now) (held (a .table .now) (a .solution .now))) (At (c .q .given .0 .0)) (tally (held (l .table) (l .solution)) (l .steps) (l .at) (l .at2))
+at-step c = rw (c .q .given .1) at (c .before .before .loop .inv .going)
+
+-- there are steps left, and draws for this one
+room : (c : tie.After-q Inv-loop μ-loop) → let a = c .before .before .before .before .before .before .before .before .args in let l = c .before .before .loop in let s = c .q .given .0 .0 in
+    (l .steps < length (stepList (a .o .size))) × (l .at + maskCost (a .o) s ≤ length (a .mask .now)) × (l .at2 + nonzeroCost (a .o) s ≤ length (a .nonzero .now)) × (length (a .mask .now) < 18446744073709551616) × (length (a .nonzero .now) < 18446744073709551616)
+room c =
+    let r = room-along _ (at-step c .along) in
+    let p = c .before .before .before .before .before .before .before .before .pre .1 .1 in
+    (r .0, omega (arith, r .1, p .0), omega (arith, r .2, p .1), omega arith, omega arith)
+
+start-requires : tie.Need-start-requires Inv-loop μ-loop
+start-requires c κs = search needs
+
+loop-holds : tie.Need-loop-holds Inv-loop μ-loop
+unfolding startOf
+loop-holds c =
+    let s = c .before .before .before .before .before in
+    let a = s .args in
+    rw (c .start .ensures)
+    (record {
+      size = refl;
+      lengths = record { table = s .pre .1 .0 .0; solution = s .pre .1 .0 .1 };
+      going = begin (a .o) (a .mask .now) (a .nonzero .now) (held (a .table .now) (a .solution .now)) (s .pre .0 .some);
+    })
+
+enum-known-q : tie.Need-enum-known-q Inv-loop μ-loop
+enum-known-q c = search needs
+
+mask-cost-requires : tie.Need-mask-cost-requires Inv-loop μ-loop
+mask-cost-requires c κs = (c .before .before .before .before .before .before .before .before .before .pre .0, along-in _ (at-step (c .before) .along))
+
+nonzero-cost-requires : tie.Need-nonzero-cost-requires Inv-loop μ-loop
+nonzero-cost-requires c κs = c .before .before .before .before .before .before .before .before .before .before .pre .0
+
+sub-act : tie.Need-sub-act Inv-loop μ-loop
+sub-act c = omega (arith, room (c .before .before .before .before .before) .1)
+
+part-act-start : tie.Need-part-act-start Inv-loop μ-loop
+part-act-start c = omega (arith, room (c .before .before .before .before .before) .1)
+
+part-act-end : tie.Need-part-act-end Inv-loop μ-loop
+part-act-end c = search needs
+
+sub-act-2 : tie.Need-sub-act-2 Inv-loop μ-loop
+sub-act-2 c = omega (arith, room (c .before .before .before .before .before .before) .2)
+
+part-act-start-2 : tie.Need-part-act-start-2 Inv-loop μ-loop
+part-act-start-2 c = omega (arith, room (c .before .before .before .before .before .before) .2)
+
+part-act-end-2 : tie.Need-part-act-end-2 Inv-loop μ-loop
+part-act-end-2 c = search needs
+
+act-requires : tie.Need-act-requires Inv-loop μ-loop
+act-requires c κs =
+    let q = c .before .before .before .before .before .before .before in
+    let v = q .before .before .loop .inv in
+    (q .before .before .before .before .before .before .before .before .pre .0, (along-in _ (at-step q .along), ((v .lengths .table, v .lengths .solution), (rw (rest, length-drop) (omega (arith, room q .1)), rw (rest, length-drop) (omega (arith, room q .2))))))
+
+next-requires : tie.Need-next-requires Inv-loop μ-loop
+next-requires c κs = search needs
+
+add-steps : tie.Need-add-steps Inv-loop μ-loop
+add-steps c =
+    let q = c .before .before .before .before .before .before .before .before .before .before .before .before .before in
+    omega (arith, room q .0, list-small (q .before .before .before .before .before .before .before .before .args .o .size) (q .before .before .before .before .before .before .before .before .pre .0 .most))
+
+add-at : tie.Need-add-at Inv-loop μ-loop
+add-at c =
+    let q = c .before .before .before .before .before .before .before .before .before .before .before .before .before in
+    omega (arith, room q .1, room q .3, c .before .before .before .before .before .before .before .before .before .before .before .mask-cost .ensures .0)
+
+add-at2 : tie.Need-add-at2 Inv-loop μ-loop
+add-at2 c =
+    let q = c .before .before .before .before .before .before .before .before .before .before .before .before .before in
+    omega (arith, room q .2, room q .4, c .before .before .before .before .before .before .before .before .before .before .nonzero-cost .ensures .0)
+
+loop-less : tie.Need-loop-less Inv-loop μ-loop
+loop-less c = omega (arith, room (c .before .before .before .before .before .before .before .before .before .before .before .before .before) .0)
+
+loop-again : tie.Need-loop-again Inv-loop μ-loop
+unfolding nextOf
+loop-again c =
+    let q = c .before .before .before .before .before .before .before .before .before .before .before .before .before in
+    let a = q .before .before .before .before .before .before .before .before .args in
+    let l = q .before .before .loop in
+    let s = q .q .given .0 .0 in
+    let x = c .before .before .before .before .before .act in
+    let g = at-step q in
+    let left = rw (rest (l .at) (a .mask .now), rest (l .at2) (a .nonzero .now)) at (x .ensures .1) in
+    record {
+      size = ap (λ (r : Progress). r .size) (c .next .ensures) ∙ l .inv .size;
+      lengths = rw left (acted-length (a .o) s (along-in _ (g .along)) _ _ _ (l .inv .lengths));
+      going =
+          moved (a .o) (a .mask .now) (a .nonzero .now) (l .inv .going) (q .q .given .1) (rw rest at (x .ensures .0))
+          (ap (λ (r : Progress). r .place) (c .next .ensures) ∙ next-place (l .p) s (x .result) (l .inv .size) (q .q .given .1) (along-in _ (g .along)))
+          left (c .before .before .before .before .before .before .before .before .before .before .before .mask-cost .ensures .0) (c .before .before .before .before .before .before .before .before .before .before .nonzero-cost .ensures .0);
+    }
+
+enum-known-q-2 : tie.Need-enum-known-q-2 Inv-loop μ-loop
+enum-known-q-2 c = search needs
+
+wipe-requires : tie.Need-wipe-requires Inv-loop μ-loop
+wipe-requires c κs = search needs
+
+same-length : tie.Need-same-length Inv-loop μ-loop
+same-length c = c .before .before .before .before .before .before .before .loop .inv .lengths .table ∙ sym (c .before .before .before .before .before .before .before .before .before .before .before .before .before .pre .1 .0 .0)
+
+same-length-2 : tie.Need-same-length-2 Inv-loop μ-loop
+same-length-2 c = simp (c .before .before .wipe .ensures, length-replicate) (c .before .before .before .before .before .before .before .loop .inv .lengths .solution ∙ sym (c .before .before .before .before .before .before .before .before .before .before .before .before .before .pre .1 .0 .1))
+
+returns : tie.Need-returns Inv-loop μ-loop
+unfolding solved conclude
+returns c =
+    let a = c .before .before .before .before .before .before .before .before .before .before .before .before .before .args in
+    let e = halted (a .o) (a .mask .now) (a .nonzero .now) (rw (c .before .before .before .before .before .q2 .given .1) at (c .before .before .before .before .before .before .before .loop .inv .going)) in
+    rw (c .before .before .wipe .ensures) (ap conclude e)
+
+enum-told : tie.Need-enum-told Inv-loop μ-loop
+enum-told c = search needs
+
+same-length-3 : tie.Need-same-length-3 Inv-loop μ-loop
+same-length-3 c = c .before .before .loop .inv .lengths .table ∙ sym (c .before .before .before .before .before .before .before .before .pre .1 .0 .0)
+
+same-length-4 : tie.Need-same-length-4 Inv-loop μ-loop
+same-length-4 c = c .before .before .loop .inv .lengths .solution ∙ sym (c .before .before .before .before .before .before .before .before .pre .1 .0 .1)
+
+returns-2 : tie.Need-returns-2 Inv-loop μ-loop
+unfolding solved conclude
+returns-2 c =
+    let a = c .before .before .before .before .before .before .before .before .args in
+    ap conclude (ended (a .o) (a .mask .now) (a .nonzero .now) (rw (c .enum-told .given .1) at (c .before .before .loop .inv .going)))
+
+pub solve-spec : {M : Type 1} → statement M
+solve-spec =
+    tie.close
+    (tie.spec
+    Inv-loop
+    μ-loop
+    start-requires
+    loop-holds
+    enum-known-q
+    mask-cost-requires
+    nonzero-cost-requires
+    sub-act
+    part-act-start
+    part-act-end
+    sub-act-2
+    part-act-start-2
+    part-act-end-2
+    act-requires
+    next-requires
+    add-steps
+    add-at
+    add-at2
+    loop-less
+    loop-again
+    enum-known-q-2
+    wipe-requires
+    same-length
+    same-length-2
+    returns
+    enum-told
+    same-length-3
+    same-length-4
+    returns-2)

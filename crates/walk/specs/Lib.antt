@@ -1,0 +1,3 @@
+pub mod Act
+pub mod Walk
+pub mod Dealing

@@ -1,0 +1,79 @@
+-- The whole solve, after its checks: a walk over the step list. Each step works on the tapes from its own first draw on, and the counters are
+-- the places of these draws.
+-- Assumes nothing.
+use mathlib.Core.List.{List, [], _∷_}
+use Prim.Native.Nat.{ℕ, _+_}
+use lib.Dec.{eqb}
+use lib.ListN.{length, drop, replicate}
+use Rattle.field.specs.Field.{pick}
+use Rattle.course.specs.declared.Step.{Step}
+use Rattle.course.specs.declared.Step.the-variants.{Mix, Check, Scale, Clear, Open}
+use Rattle.course.specs.declared.Order.{Order}
+use Rattle.course.specs.declared.Counts.{Counts}
+use Rattle.course.specs.StepList.{maskCost, nonzeroCost, stepList}
+use Rattle.walk.specs.declared.Ending.{Ending}
+use Rattle.walk.specs.declared.Ending.the-variants.{Solved, Stopped}
+use Rattle.walk.specs.Act.{Held, held, opened, acted}
+
+-- what was lent, and what was taken so far
+pub record Tally : Type 0 where
+  pub left : Held
+  pub steps : ℕ
+  pub mask : ℕ
+  pub nonzero : ℕ
+
+pub data Course : Type 0 where
+  running : Tally → Course
+  stopped : ℕ → Tally → Course
+
+module _ (o : Order) (ms zs : List ℕ) where
+  abbrev pub opens : Step → Tally → ℕ
+  opens s t = opened o s (drop (t .mask) ms) (t .left)
+
+  abbrev pub spent : Step → Tally → Tally
+  spent s t =
+      record {
+        left = acted o s (drop (t .mask) ms) (drop (t .nonzero) zs) (t .left);
+        steps = t .steps + 1;
+        mask = t .mask + maskCost o s;
+        nonzero = t .nonzero + nonzeroCost o s;
+      }
+
+  -- Check stops where it opens 1
+  abbrev pub settle : Step → ℕ → Tally → Course
+  settle (Mix j k) x t = running t
+  settle (Check j) x t = pick (eqb x 1) (stopped j t) (running t)
+  settle (Scale j) x t = running t
+  settle (Clear j k) x t = running t
+  settle (Open j) x t = running t
+
+  abbrev pub then : Step → Course → Course
+  then s (running t) = settle s (opens s t) (spent s t)
+  then s (stopped j t) = stopped j t
+
+  unfoldable pub walk : List Step → Course → Course
+  walk [] c = c
+  walk (s ∷ ss) c = walk ss (then s c)
+
+abbrev pub countsOf : Tally → Counts
+countsOf t = record { steps = t .steps; mask = t .mask; nonzero = t .nonzero }
+
+-- what a solve answers and leaves
+pub record Solution : Type 0 where
+  pub answer : Ending
+  pub left : Held
+
+abbrev pub leaves : Ending → List ℕ → List ℕ → Solution
+leaves a t x = record { answer = a; left = held t x }
+
+-- on stopped, all m solution bytes become 0
+unfoldable pub conclude : Course → Solution
+conclude (running t) = leaves (Solved (countsOf t)) (t .left .table) (t .left .solution)
+conclude (stopped j t) =
+    leaves (Stopped j (countsOf t)) (t .left .table) (replicate (length (t .left .solution)) 0)
+
+abbrev pub fresh : Held → Tally
+fresh h = record { left = h; steps = 0; mask = 0; nonzero = 0 }
+
+unfoldable pub solved : Order → List ℕ → List ℕ → Held → Solution
+solved o ms zs h = conclude (walk o ms zs (stepList (o .size)) (running (fresh h)))

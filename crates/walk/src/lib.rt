@@ -1,0 +1,198 @@
+// The work behind the public calls, after their checks: one step of the list, the whole solve as a walk over the list, dealing and gathering.
+// Stands on course and table.
+
+ghost use mathlib.Core.Bool.{true};
+ghost use mathlib.Core.Path.{_≡_};
+ghost use Prim.Native.Nat.{_+_, _-_, _*_, _≤_};
+ghost use lib.ListN.{length, replicate};
+ghost use Rattle.field.specs.Field.{fieldOf};
+ghost use Rattle.sharing.specs.Run.{tab};
+ghost use Rattle.sharing.specs.Rules.{drawAt};
+ghost use Rattle.table.specs.Layout.{tableBytes};
+ghost use Rattle.table.specs.Steps.{columnTurn};
+ghost use Rattle.course.specs.StepList.{Sizes, inList, maskCost, nonzeroCost, fullMask, fullNonzero};
+ghost use Rattle.walk.specs.Act.{held, opened, acted};
+ghost use Rattle.walk.specs.Walk.{leaves, solved};
+ghost use Rattle.walk.specs.Dealing.{dealtEntry, dealTurn, dealt, gathered};
+use course::Counts;
+use course::Order;
+use course::Place;
+use course::Progress;
+use course::Step;
+
+// How a solve ends, with the steps, mask draws and nonzero draws taken.
+pub enum Ending {
+    Solved(Counts),
+    Stopped(u64, Counts),
+}
+
+// Does one step of the list, and returns the number that it opened, 0 where it opens none.
+pub fn act(
+    o: Order,
+    s: Step,
+    table: &mut [u8],
+    solution: &mut [u8],
+    mask: &[u8],
+    nonzero: &[u8],
+) -> u8
+    requires { ⌜ Sizes o ⌝ }
+    requires { ⌜ inList (o .size) s ≡ true ⌝ }
+    requires { ⌜ (length (now table) ≡ tableBytes (o .shares) (o .size) (o .size + 1)) × (length (now solution) ≡ o .size) ⌝ }
+    requires { ⌜ (maskCost o s ≤ length (now mask)) × (nonzeroCost o s ≤ length (now nonzero)) ⌝ }
+    ensures { λ r. ⌜ r ≡ opened o s (now (mask .entry)) (held (now (table .entry)) (now (solution .entry))) ⌝ }
+    ensures { λ r. ⌜ held (now (table .exit)) (now (solution .exit)) ≡ acted o s (now (mask .entry)) (now (nonzero .entry)) (held (now (table .entry)) (now (solution .entry))) ⌝ }
+{
+    let f = o.field;
+    let n = o.shares as usize;
+    let m = o.size as usize;
+    let w = m + 1;
+    match s {
+        Step::Mix { j, k } => {
+            let c = j as usize;
+            table::mix(f, n, m, w, table, c, c, k as usize, mask);
+            0
+        }
+        Step::Check(j) => {
+            let c = j as usize;
+            table::check(f, n, m, w, table, c, c, mask)
+        }
+        Step::Scale(j) => {
+            let c = j as usize;
+            table::scale(f, n, m, w, table, c, c, nonzero, mask);
+            0
+        }
+        Step::Clear { j, k } => {
+            let c = j as usize;
+            table::clear(f, n, m, w, table, c, c, k as usize, mask);
+            0
+        }
+        Step::Open(j) => {
+            let c = j as usize;
+            let x = table::open(f, n, m, w, table, c, mask);
+            solution[c - 1] = x;
+            table::lift(f, n, m, w, table, c, c, x);
+            x
+        }
+    }
+}
+
+fn wipe(x: &mut [u8])
+    ensures { λ r. ⌜ now (x .exit) ≡ replicate (length (now (x .entry))) 0 ⌝ }
+{
+    for i in 0..x.len() {
+        x[i] = 0;
+    }
+}
+
+// The whole solve.
+pub fn solve(o: Order, table: &mut [u8], solution: &mut [u8], mask: &[u8], nonzero: &[u8]) -> Ending
+    requires { ⌜ Sizes o ⌝ }
+    requires { ⌜ (length (now table) ≡ tableBytes (o .shares) (o .size) (o .size + 1)) × (length (now solution) ≡ o .size) ⌝ }
+    requires { ⌜ (fullMask o ≤ length (now mask)) × (fullNonzero o ≤ length (now nonzero)) ⌝ }
+    ensures { λ r. ⌜ leaves r (now (table .exit)) (now (solution .exit)) ≡ solved o (now (mask .entry)) (now (nonzero .entry)) (held (now (table .entry)) (now (solution .entry))) ⌝ }
+{
+    let mut p = Progress::start(o);
+    let mut steps: usize = 0;
+    let mut at: usize = 0;
+    let mut at2: usize = 0;
+    loop {
+        let q = p.place;
+        match q {
+            Place::At(s) => {
+                let a = course::mask_cost(o, s);
+                let b = course::nonzero_cost(o, s);
+                let x = act(o, s, table, solution, &mask[at..], &nonzero[at2..]);
+                p = p.next(x);
+                steps += 1;
+                at += a;
+                at2 += b;
+            }
+            Place::Stopped(j) => {
+                wipe(solution);
+                return Ending::Stopped(
+                    j,
+                    Counts {
+                        steps: steps,
+                        mask: at,
+                        nonzero: at2,
+                    },
+                );
+            }
+            Place::Done => {
+                return Ending::Solved(Counts {
+                    steps: steps,
+                    mask: at,
+                    nonzero: at2,
+                });
+            }
+        }
+    }
+}
+
+// Shares 2..n are draws, in order.
+fn draw_shares(f: u64, e: &mut [u8], mask: &[u8])
+    requires { ⌜ length (now e) ≤ length (now mask) ⌝ }
+    ensures { λ r. ⌜ now (e .exit) ≡ tab (length (now (e .entry))) (drawAt (fieldOf f) (now (mask .entry))) ⌝ }
+{
+    for s in 0..e.len() {
+        e[s] = field::draw(f, mask[s]);
+    }
+}
+
+// One value into its n shares.
+fn deal_entry(f: u64, e: &mut [u8], v: u8, mask: &[u8])
+    requires { ⌜ (2 ≤ length (now e)) × (length (now e) - 1 ≤ length (now mask)) ⌝ }
+    ensures { λ r. ⌜ now (e .exit) ≡ dealtEntry (fieldOf f) (length (now (e .entry))) (now (mask .entry)) v ⌝ }
+{
+    draw_shares(f, &mut e[1..], mask);
+    let d = sharing::sum(f, &e[1..]);
+    e[0] = field::sub(f, v, d);
+}
+
+// Entry number i, whose n bytes begin at p and whose draws at d.
+fn deal_turn(
+    f: u64,
+    n: usize,
+    table: &mut [u8],
+    values: &[u8],
+    mask: &[u8],
+    i: usize,
+    p: usize,
+    d: usize,
+)
+    requires { ⌜ (2 ≤ n) × (p ≡ i * n) × (d ≡ i * (n - 1)) × (i + 1 ≤ length (now values)) ⌝ }
+    requires { ⌜ (p + n ≤ length (now table)) × (d + (n - 1) ≤ length (now mask)) ⌝ }
+    ensures { λ r. ⌜ now (table .exit) ≡ columnTurn n (dealTurn f n (now (values .entry)) (now (mask .entry))) i (now (table .entry)) ⌝ }
+{
+    let e = p + n;
+    deal_entry(f, &mut table[p..e], values[i], &mask[d..]);
+}
+
+// Deals all values, in row order.
+pub fn deal(f: u64, n: usize, table: &mut [u8], values: &[u8], mask: &[u8])
+    requires { ⌜ (2 ≤ n) × (n ≤ 4) × (length (now values) ≤ 9312) ⌝ }
+    requires { ⌜ (length (now table) ≡ length (now values) * n) × (length (now values) * (n - 1) ≤ length (now mask)) ⌝ }
+    ensures { λ r. ⌜ now (table .exit) ≡ dealt f n (length (now (values .entry))) (now (values .entry)) (now (mask .entry)) (now (table .entry)) ⌝ }
+{
+    let mut p: usize = 0;
+    let mut d: usize = 0;
+    for i in 0..values.len() {
+        deal_turn(f, n, table, values, mask, i, p, d);
+        p += n;
+        d += n - 1;
+    }
+}
+
+// Gathers all values, in row order.
+pub fn gather(f: u64, n: usize, table: &[u8], values: &mut [u8])
+    requires { ⌜ (2 ≤ n) × (n ≤ 4) × (length (now values) ≤ 9312) ⌝ }
+    requires { ⌜ length (now table) ≡ length (now values) * n ⌝ }
+    ensures { λ r. ⌜ now (values .exit) ≡ gathered f n (length (now (values .entry))) (now (table .entry)) ⌝ }
+{
+    let mut p: usize = 0;
+    for i in 0..values.len() {
+        let e = p + n;
+        values[i] = sharing::sum(f, &table[p..e]);
+        p = e;
+    }
+}
