@@ -4,3 +4,4 @@ pub mod Scan
 pub mod Ready
 pub mod Calls
 pub mod Once
+pub mod Meaning

@@ -9,7 +9,7 @@ use native.Mathlib.Decide.{ℕ-discrete}
 use native.Mathlib.Nat.{mul-le-mul}
 use native.Mathlib.Omega.{arith}
 use lib.Dec.{eqb, ltb}
-use lib.ListN.{length}
+use lib.ListN.{length, take}
 use borrow.Author.Tests.{ltb-false, eqb-true, eqb-false, not-false, eq-eqb, ne-eqb}
 use Rattle.field.specs.Field.{fieldOf}
 use Rattle.sharing.specs.Rules.{drawAt, blindedValue}
@@ -130,6 +130,7 @@ pub record Solvable (o : Order) (t : List ℕ) (solution mask : ℕ) (nonzero : 
   pub lent : Buffers (wholeTable o) t (o .size) solution
   pub masks : fullMask o ≤ mask
   pub others : fullNonzero o ≤ length nonzero
+  pub nonzeros : no9 (o .field) (take (fullNonzero o) nonzero) ≡ passed
 
 pub solvable : (o : Order) (t : List ℕ) (solution mask : ℕ) (nonzero : List ℕ) → solveOrder o t solution mask nonzero ≡ passed → Solvable o t solution mask nonzero
 unfolding solveOrder tapes no7 no8
@@ -144,6 +145,7 @@ solvable o t solution mask nonzero e =
       lent = buffered _ _ _ _ _ (left a _ rest);
       masks = enough (fullMask o) mask 7 _ (left b d two);
       others = enough (fullNonzero o) (length nonzero) 8 _ (right b d two);
+      nonzeros = right (b or d) _ (right a _ rest);
     }
 
 -- 4, 5, 10 and 11 passed

@@ -19,6 +19,7 @@ use Rattle.walk.specs.declared.Ending.the-variants as E
 use Rattle.walk.specs.Act.{Held, held, opened, acted}
 use Rattle.walk.specs.Walk.{Solution, solved}
 use Rattle.walk.specs.Dealing.{dealt, gathered}
+use Rattle.meaning.specs.Meaning.{Means}
 use Rattle.solver.specs.declared.Refusal.{Refusal}
 use Rattle.solver.specs.declared.Starting.{Starting}
 use Rattle.solver.specs.declared.Starting.the-variants as Start
@@ -108,6 +109,11 @@ solveDoes s = after (gives (s .answer)) (s .left)
 unfoldable pub solveCall : Order → Held → List ℕ → List ℕ → Outcome Ending Held
 solveCall o h mask nonzero =
     call (solveOrder o (h .table) (length (h .solution)) (length mask) nonzero) h (solveDoes (solved o mask nonzero h))
+
+-- demand 2: what an answer that is no refusal says of the table as it was lent, x being the solution that the call leaves
+abbrev pub Tells : Order → List ℕ → Says Ending → List ℕ → Type 0
+Tells o t (refuses l) x = Unit {0}
+Tells o t (gives e) x = Means o t e x
 
 -- ---- Step: moved, opened (with j and x_j), stopped (with j) or done (the last Open, j = 1, answers done with x_1)
 

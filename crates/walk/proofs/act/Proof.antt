@@ -1,5 +1,6 @@
 -- `walk::act` meets its contract: each arm is the step's line of the definition, and what the work asks follows from the step being one of the list.
 -- Assumes nothing.
+use Prim.Native.Nat.{_≤_}
 use native.Mathlib.Omega.{arith}
 use Rattle.course.specs.declared.Step.the-variants.{Mix, Check, Scale, Clear, Open}
 use Rattle.course.specs.StepList.{maskCost, nonzeroCost}
@@ -9,6 +10,10 @@ use Rattle.walk.proofs.Acted.{square, pivot, under, last}
 use borrow.Author.Needs.{needs}
 use Rattle.walk.proofs.act.Statement.{statement}
 use Rattle.walk.proofs.act.Tie as tie
+
+-- the column of an Open
+opening : (c : tie.After-s5) → let j = c .s5 .given .0 .0 in (1 ≤ j) × (j ≤ c .before .before .before .before .before .before .args .o .size)
+opening c = within _ (Open (c .s5 .given .0 .0)) (rw (c .s5 .given .1) at (c .before .before .before .before .before .before .pre .1 .0))
 
 add-w : tie.Need-add-w
 add-w c = search needs
@@ -65,28 +70,23 @@ unfolding maskCost
 open-requires c κs =
     let s = c .before .before in
     let p = s .before .before .before .before .before .before .pre in
-    let w = within _ (Open (s .s5 .given .0 .0)) (rw (s .s5 .given .1) at (p .1 .0)) in
+    let w = opening s in
     (square (p .0), (last (w .0) (w .1), (p .1 .1 .0 .0, rw (s .s5 .given .1) at (p .1 .1 .1 .0))))
 
 sub-solution : tie.Need-sub-solution
-sub-solution c =
-    let s = c .before .before .before in
-    let p = s .before .before .before .before .before .before .pre in
-    let w = within _ (Open (s .s5 .given .0 .0)) (rw (s .s5 .given .1) at (p .1 .0)) in
-    omega arith
+sub-solution c = let w = opening (c .before .before .before) in omega arith
 
 slice-write-solution : tie.Need-slice-write-solution
 slice-write-solution c =
     let s = c .before .before .before in
-    let p = s .before .before .before .before .before .before .pre in
-    let w = within _ (Open (s .s5 .given .0 .0)) (rw (s .s5 .given .1) at (p .1 .0)) in
-    omega (arith, p .1 .1 .0 .1)
+    let w = opening s in
+    omega (arith, s .before .before .before .before .before .before .pre .1 .1 .0 .1)
 
 lift-requires : tie.Need-lift-requires
 lift-requires c κs =
     let s = c .before .before .before .before in
     let p = s .before .before .before .before .before .before .pre in
-    let w = within _ (Open (s .s5 .given .0 .0)) (rw (s .s5 .given .1) at (p .1 .0)) in
+    let w = opening s in
     (square (p .0), (pivot (w .0) (w .1), p .1 .1 .0 .0))
 
 same-length : tie.Need-same-length

@@ -1,5 +1,6 @@
--- `walk::solve` meets its contract. The loop's invariant: the solve is somewhere along the list, and the walk of the steps left from here is the whole walk.
--- The measure is how many steps are left. Assumes nothing.
+-- `walk::solve` meets its contract. The loop's invariant: what was counted and the steps left make up the list, and the walk of the steps left comes to the
+-- end of the whole walk. The measure is how many steps are left.
+-- Assumes nothing.
 use mathlib.Core.List.{List}
 use mathlib.Core.Path.{_≡_, refl, sym, ap, _∙_}
 use Prim.Native.Nat.{ℕ, _≤_, _<_, _+_, _-_}
@@ -9,9 +10,9 @@ use Rattle.sharing.proofs.Loops.{rest}
 use Rattle.course.specs.declared.Order.{Order}
 use Rattle.course.specs.declared.Progress.{Progress}
 use Rattle.course.specs.declared.Place.the-variants.{At}
-use Rattle.course.specs.StepList.{stepList, maskCost, nonzeroCost}
+use Rattle.course.specs.StepList.{stepList, maskCost, nonzeroCost, fullMask, fullNonzero}
 use Rattle.course.specs.Next.{startOf, nextOf}
-use Rattle.course.proofs.Sums.{list-small}
+use Rattle.course.proofs.Sums.{list-small, mask-small, nonzero-small}
 use Rattle.course.proofs.Along.{along-in, room-along, next-place}
 use Rattle.walk.specs.Act.{Held, held}
 use Rattle.walk.specs.Walk.{Tally, Course, running, walk, fresh, conclude, solved}
@@ -42,12 +43,9 @@ at-step : (c : tie.After-q Inv-loop μ-loop) → let a = c .before .before .befo
 at-step c = rw (c .q .given .1) at (c .before .before .loop .inv .going)
 
 -- there are steps left, and draws for this one
-room : (c : tie.After-q Inv-loop μ-loop) → let a = c .before .before .before .before .before .before .before .before .args in let l = c .before .before .loop in let s = c .q .given .0 .0 in
-    (l .steps < length (stepList (a .o .size))) × (l .at + maskCost (a .o) s ≤ length (a .mask .now)) × (l .at2 + nonzeroCost (a .o) s ≤ length (a .nonzero .now)) × (length (a .mask .now) < 18446744073709551616) × (length (a .nonzero .now) < 18446744073709551616)
-room c =
-    let r = room-along _ (at-step c .along) in
-    let p = c .before .before .before .before .before .before .before .before .pre .1 .1 in
-    (r .0, omega (arith, r .1, p .0), omega (arith, r .2, p .1), omega arith, omega arith)
+room : (c : tie.After-q Inv-loop μ-loop) → let o = c .before .before .before .before .before .before .before .before .args .o in let l = c .before .before .loop in let s = c .q .given .0 .0 in
+    (l .steps < length (stepList (o .size))) × (l .at + maskCost o s ≤ fullMask o) × (l .at2 + nonzeroCost o s ≤ fullNonzero o)
+room c = room-along _ (at-step c .along)
 
 start-requires : tie.Need-start-requires Inv-loop μ-loop
 start-requires c κs = search needs
@@ -74,19 +72,19 @@ nonzero-cost-requires : tie.Need-nonzero-cost-requires Inv-loop μ-loop
 nonzero-cost-requires c κs = c .before .before .before .before .before .before .before .before .before .before .pre .0
 
 sub-act : tie.Need-sub-act Inv-loop μ-loop
-sub-act c = omega (arith, room (c .before .before .before .before .before) .1)
+sub-act c = let q = c .before .before .before .before .before in omega (arith, room q .1, q .before .before .before .before .before .before .before .before .pre .1 .1 .0)
 
 part-act-start : tie.Need-part-act-start Inv-loop μ-loop
-part-act-start c = omega (arith, room (c .before .before .before .before .before) .1)
+part-act-start c = let q = c .before .before .before .before .before in omega (arith, room q .1, q .before .before .before .before .before .before .before .before .pre .1 .1 .0)
 
 part-act-end : tie.Need-part-act-end Inv-loop μ-loop
 part-act-end c = search needs
 
 sub-act-2 : tie.Need-sub-act-2 Inv-loop μ-loop
-sub-act-2 c = omega (arith, room (c .before .before .before .before .before .before) .2)
+sub-act-2 c = let q = c .before .before .before .before .before .before in omega (arith, room q .2, q .before .before .before .before .before .before .before .before .pre .1 .1 .1)
 
 part-act-start-2 : tie.Need-part-act-start-2 Inv-loop μ-loop
-part-act-start-2 c = omega (arith, room (c .before .before .before .before .before .before) .2)
+part-act-start-2 c = let q = c .before .before .before .before .before .before in omega (arith, room q .2, q .before .before .before .before .before .before .before .before .pre .1 .1 .1)
 
 part-act-end-2 : tie.Need-part-act-end-2 Inv-loop μ-loop
 part-act-end-2 c = search needs
@@ -94,8 +92,9 @@ part-act-end-2 c = search needs
 act-requires : tie.Need-act-requires Inv-loop μ-loop
 act-requires c κs =
     let q = c .before .before .before .before .before .before .before in
+    let p = q .before .before .before .before .before .before .before .before .pre in
     let v = q .before .before .loop .inv in
-    (q .before .before .before .before .before .before .before .before .pre .0, (along-in _ (at-step q .along), ((v .lengths .table, v .lengths .solution), (rw (rest, length-drop) (omega (arith, room q .1)), rw (rest, length-drop) (omega (arith, room q .2))))))
+    (p .0, (along-in _ (at-step q .along), ((v .lengths .table, v .lengths .solution), (rw (rest, length-drop) (omega (arith, room q .1, p .1 .1 .0)), rw (rest, length-drop) (omega (arith, room q .2, p .1 .1 .1))))))
 
 next-requires : tie.Need-next-requires Inv-loop μ-loop
 next-requires c κs = search needs
@@ -103,17 +102,20 @@ next-requires c κs = search needs
 add-steps : tie.Need-add-steps Inv-loop μ-loop
 add-steps c =
     let q = c .before .before .before .before .before .before .before .before .before .before .before .before .before in
-    omega (arith, room q .0, list-small (q .before .before .before .before .before .before .before .before .args .o .size) (q .before .before .before .before .before .before .before .before .pre .0 .most))
+    let s = q .before .before .before .before .before .before .before .before in
+    omega (arith, room q .0, list-small (s .args .o .size) (s .pre .0 .most))
 
 add-at : tie.Need-add-at Inv-loop μ-loop
 add-at c =
     let q = c .before .before .before .before .before .before .before .before .before .before .before .before .before in
-    omega (arith, room q .1, room q .3, c .before .before .before .before .before .before .before .before .before .before .before .mask-cost .ensures .0)
+    let s = q .before .before .before .before .before .before .before .before in
+    omega (arith, room q .1, mask-small (s .args .o) (s .pre .0), c .before .before .before .before .before .before .before .before .before .before .before .mask-cost .ensures .0)
 
 add-at2 : tie.Need-add-at2 Inv-loop μ-loop
 add-at2 c =
     let q = c .before .before .before .before .before .before .before .before .before .before .before .before .before in
-    omega (arith, room q .2, room q .4, c .before .before .before .before .before .before .before .before .before .before .nonzero-cost .ensures .0)
+    let s = q .before .before .before .before .before .before .before .before in
+    omega (arith, room q .2, nonzero-small (s .args .o) (s .pre .0), c .before .before .before .before .before .before .before .before .before .before .nonzero-cost .ensures .0)
 
 loop-less : tie.Need-loop-less Inv-loop μ-loop
 loop-less c = omega (arith, room (c .before .before .before .before .before .before .before .before .before .before .before .before .before) .0)
