@@ -1,20 +1,19 @@
--- A step of the list as the walk takes it: it keeps the lengths of what is lent, and does to the values what algebra's step does to them.
+-- A step of the list as the walk takes it does to the values what algebra's step does to them.
 -- Assumes nothing.
 use mathlib.Core.Path.{_≡_, refl, sym, ap, _∙_}
 use Prim.Native.Nat.{ℕ, _+_, _-_, _<_, _≤_}
 use mathlib.Core.List.{List}
 use native.Mathlib.Omega.{arith}
 use native.Mathlib.Decide.{ℕ-discrete}
-use lib.ListN.{length, length-set}
+use lib.ListN.{length}
 use lib.Dec.{eqb}
 use borrow.Author.Tests.{eq-eqb, ne-eqb}
 use Rattle.field.specs.Field.{pick, fieldOf}
 use Rattle.sharing.specs.Rules.{drawAt}
 use Rattle.sharing.specs.Lists.{flagOf}
 use Rattle.table.specs.Costs.{scaleNonzero}
-use Rattle.table.specs.Layout.{tableBytes, Place}
+use Rattle.table.specs.Layout.{tableBytes}
 use Rattle.table.specs.Steps.{lift}
-use Rattle.table.proofs.Lengths.{mix-length, scale-length, clear-length, lift-length}
 use Rattle.algebra.specs.Field.{Ops}
 use Rattle.algebra.specs.Linear.{Table}
 use Rattle.algebra.specs.StepList as A
@@ -24,19 +23,13 @@ use Rattle.course.specs.declared.Order.{Order}
 use Rattle.course.specs.StepList.{nonzeroCost}
 use Rattle.course.proofs.Within.{Within}
 use Rattle.walk.specs.Act.{Held, opened, acted}
+use Rattle.walk.proofs.Acted.{pivot, under}
 use Rattle.meaning.specs.Meaning.{valueOf}
 use Rattle.meaning.proofs.Elements.{Element, O, of, of-zero}
 use Rattle.meaning.proofs.Grid.{grid, grid-at}
 use Rattle.meaning.proofs.Outcomes.{value-lt}
 use Rattle.meaning.proofs.Link.{flag-yes, flag-no, nought-zero, mix-link, check-link, scale-link, clear-link, opens-link, lift-link}
 use Rattle.meaning.proofs.Listed.{counted}
-
--- the pivot's place, and that of a row below it
-pub pivot : {m j : ℕ} → 1 ≤ j → j ≤ m → Place m (m + 1) j j
-pivot a b = record { row-low = a; row-high = b; column-low = a; column-high = omega arith }
-
-under : {m j k : ℕ} → 1 ≤ j → j < k → k ≤ m → Place m (m + 1) k j
-under a b c = record { row-low = omega arith; row-high = c; column-low = a; column-high = omega arith }
 
 -- algebra's test of a pivot
 module _ {F : Type 0} (P : Ops F) (j : ℕ) (T : Table F) where
@@ -66,22 +59,6 @@ module _ (o : Order) (some : 0 < o .shares) where
 
   abbrev f : ℕ
   f = o .field
-
-  pub acted-sized : (s : Step) → Within m s → (ds nz : List ℕ) (h : Held) → Sized o h → Sized o (acted o s ds nz h)
-  unfolding acted
-  acted-sized (Mix j k) u ds nz h l = mix-length (o .shares) m (m + 1) (h .table) l f (pivot (u .0) (omega arith)) k ds
-  acted-sized (Check j) u ds nz h l = l
-  acted-sized (Scale j) u ds nz h l = scale-length (o .shares) m (m + 1) (h .table) l f (pivot (u .0) (u .1)) nz ds
-  acted-sized (Clear j k) u ds nz h l = clear-length (o .shares) m (m + 1) (h .table) l f (under (u .0) (u .1) (u .2)) j ds
-  acted-sized (Open j) u ds nz h l = lift-length (o .shares) m (m + 1) (h .table) l f (pivot (u .0) (u .1)) (opened o (Open j) ds h)
-
-  pub acted-places : (s : Step) (ds nz : List ℕ) (h : Held) → length (acted o s ds nz h .solution) ≡ length (h .solution)
-  unfolding acted
-  acted-places (Mix j k) ds nz h = refl
-  acted-places (Check j) ds nz h = refl
-  acted-places (Scale j) ds nz h = refl
-  acted-places (Clear j k) ds nz h = refl
-  acted-places (Open j) ds nz h = length-set (h .solution) (j - 1) (opened o (Open j) ds h)
 
   -- Open opens the value of its row's last entry
   pub open-value : {j : ℕ} → 1 ≤ j → j ≤ m → (ds : List ℕ) (h : Held) → Sized o h

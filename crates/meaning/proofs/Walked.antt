@@ -28,7 +28,8 @@ use Rattle.meaning.proofs.Elements.{Element, O}
 use Rattle.meaning.proofs.Grid.{grid}
 use Rattle.meaning.proofs.Link.{lift-kept-value}
 use Rattle.meaning.proofs.Listed.{counted, countedAll, list-counted}
-use Rattle.meaning.proofs.Acted.{Sized, pivot, acted-sized, acted-places, open-value, leaves, act-link}
+use Rattle.walk.proofs.Acted.{pivot, acted-sized, acted-places}
+use Rattle.meaning.proofs.Acted.{Sized, open-value, leaves, act-link}
 
 -- no draw that a full solve takes from the nonzero tape is 0
 abbrev pub NoZero : Order → List ℕ → Type 0
@@ -76,8 +77,8 @@ module _ (o : Order) (some : 0 < o .shares) (ms zs : List ℕ) (nonzero : NoZero
   unfolding sumOver
   after-sound s l u t g =
       record {
-        table = acted-sized o some s u (drop (t .mask) ms) (drop (t .nonzero) zs) (t .left) (g .table);
-        places = acted-places o some s (drop (t .mask) ms) (drop (t .nonzero) zs) (t .left) ∙ g .places;
+        table = acted-sized o s u (drop (t .mask) ms) (drop (t .nonzero) zs) (t .left) (g .table);
+        places = acted-places o s (drop (t .mask) ms) (drop (t .nonzero) zs) (t .left) ∙ g .places;
         room = omega (arith, g .room);
       }
 

@@ -13,7 +13,7 @@ use lib.ListN.{length, take}
 use borrow.Author.Tests.{ltb-false, eqb-true, eqb-false, not-false, eq-eqb, ne-eqb}
 use Rattle.field.specs.Field.{fieldOf}
 use Rattle.sharing.specs.Rules.{drawAt, blindedValue}
-use Rattle.table.specs.Layout.{Sizes as Shape, Place as Cell, tableBytes, entry}
+use Rattle.table.specs.Layout.{Place as Cell, tableBytes, entry}
 use Rattle.table.specs.Costs.{scaleNonzero}
 use Rattle.table.specs.Values.{value}
 use Rattle.table.proofs.Values.{pivot-zero, zero-pivot}
@@ -24,8 +24,9 @@ use Rattle.course.specs.declared.Place.the-variants.{At}
 use Rattle.course.specs.declared.Order.{Order}
 use Rattle.course.specs.StepList.{Sizes, inList, maskCost, nonzeroCost, fullMask, fullNonzero}
 use Rattle.course.proofs.Within.{within}
+use Rattle.walk.proofs.Acted.{pivot}
 use Rattle.solver.specs.Told.{passed, refuse, _or_}
-use Rattle.solver.specs.Refusals.{outside, firstPlace, zeroDraw, placed, entries, wholeTable, dealDraws, maskAt, nonzeroAt, zeroPivotOf, no1, no2, no3, no4, no5, no6, no7, no8, no7step, no8step, no9, no10, no12, sizes, buffers, dealOrder, gatherOrder, tapes, solveOrder, placing, lending, stepOrder}
+use Rattle.solver.specs.Refusals.{outside, firstPlace, zeroDraw, placed, ended, entries, wholeTable, dealDraws, maskAt, nonzeroAt, zeroPivotOf, no1, no2, no3, no4, no5, no6, no7, no8, no7step, no8step, no9, no10, no11, no12, sizes, buffers, dealOrder, gatherOrder, tapes, solveOrder, placing, lending, stepOrder}
 use Rattle.solver.proofs.Told.{left, right, not-then}
 use Rattle.solver.proofs.Scan.{before-first}
 
@@ -153,9 +154,10 @@ pub record Placed (o : Order) (place : Place) (table solution : ℕ) : Type 0 wh
   pub whole : table ≡ wholeTable o
   pub room : solution ≡ o .size
   pub listed : placed (o .size) place ≡ true
+  pub going : ended place ≡ false
 
 pub placing-says : (o : Order) (place : Place) (table solution : ℕ) → placing o place table solution ≡ passed → Placed o place table solution
-unfolding placing no4 no5 no10
+unfolding placing no4 no5 no10 no11
 placing-says o place table solution e =
     let a = no4 (wholeTable o) table in
     let b = no5 (o .size) solution in
@@ -166,6 +168,7 @@ placing-says o place table solution e =
       whole = same (wholeTable o) table 4 _ (left a b two);
       room = same (o .size) solution 5 _ (right a b two);
       listed = not-false _ (not-then _ _ (right (a or b) d three));
+      going = not-then _ _ (right (a or b or d) (no11 place) e);
     }
 
 -- 6 to 9 passed
@@ -224,14 +227,9 @@ both-zero a b there back = elim (ℕ-discrete a 0) [
   | no n ↦ ne-eqb a 0 n ∙ sym (ne-eqb b 0 (λ e. n (back e)))
 ]
 
--- what the opening of a Scale's pivot asks of the table: its shape, and the pivot's place
-pub shape : (o : Order) → Sizes o → Shape (o .shares) (o .size) (o .size + 1)
-shape o z = record { shares-low = z .two; shares-high = z .four; rows-high = z .most; width-high = omega arith }
-
+-- the pivot's place of a Scale
 pub pivot-cell : (o : Order) (j : ℕ) → inList (o .size) (Scale j) ≡ true → Cell (o .size) (o .size + 1) j j
-pivot-cell o j h =
-    let w = within (o .size) (Scale j) h in
-    record { row-low = w .0; row-high = w .1; column-low = w .0; column-high = omega arith }
+pivot-cell o j h = let w = within (o .size) (Scale j) h in pivot (w .0) (w .1)
 
 -- what an Inversion opens tells whether the pivot of a Scale is 0
 pub pivot-told : (o : Order) (j : ℕ) (t mask nonzero : List ℕ) → inList (o .size) (Scale j) ≡ true → length t ≡ wholeTable o

@@ -14,7 +14,7 @@ use Rattle.solver.specs.Told.{Told, passed, refused, Line}
 use Rattle.solver.specs.Refusals.{placed, ended, maskAt, nonzeroAt, stepOrder}
 use Rattle.solver.specs.Calls.{refuses, call, stepDoes, stepCall}
 use Rattle.trace.specs.Trace.{Beside, Host, called, hostAfter, orderIn, Refused, Accepted}
-use Rattle.trace.proofs.Verdict.{Passed, passes}
+use Rattle.solver.proofs.Ready.{Going, going}
 
 module _ (h : Host) (c : Beside) where
   -- what the call's checks say
@@ -36,34 +36,34 @@ module _ (h : Host) (c : Beside) where
         after = rw (e, add-zero, append-nil (h .mask), append-nil (h .nonzero));
       }
 
-  accepted-at : (p : Place) → h .progress .place ≡ p → Passed (orderIn h) p (h .table) (length (c .mask)) (length (c .nonzero))
+  accepted-at : (p : Place) → h .progress .place ≡ p → Going (orderIn h) p (h .table) (length (c .solution)) (length (c .mask)) (c .nonzero)
       → verdict ≡ passed → (s : Step) × Accepted h c s
   unfolding called stepCall call stepDoes hostAfter placed ended maskAt nonzeroAt
   accepted-at (At s) e w v = (
     s,
     record {
       place = e;
-      listed = w .listed;
-      table = w .table;
-      mask = w .mask;
-      nonzero = w .nonzero;
+      listed = w .at .listed;
+      table = w .at .whole;
+      mask = w .lent .masks;
+      nonzero = w .lent .others;
       says = rw (v, e);
       after = rw (v, e);
     },
   )
   accepted-at (Stopped j) e w v =
-      let g = w .going in
+      let g = w .at .going in
       let z : _≡_ {A = ℕ} 0 1 = cc in
       absurd (let n : ⊥ = omega arith in n)
   accepted-at Done e w v =
-      let g = w .going in
+      let g = w .at .going in
       let z : _≡_ {A = ℕ} 0 1 = cc in
       absurd (let n : ⊥ = omega arith in n)
 
   accepted-call : verdict ≡ passed → (s : Step) × Accepted h c s
   accepted-call e =
       accepted-at (h .progress .place) refl
-      (passes (orderIn h) (h .progress .place) (h .table) (length (c .solution)) (length (c .mask)) (c .nonzero) e) e
+      (going (orderIn h) (h .progress .place) (h .table) (length (c .solution)) (length (c .mask)) (c .nonzero) e) e
 
   by-verdict : (v : Told) → verdict ≡ v → Refused h c ⊎ ((s : Step) × Accepted h c s)
   by-verdict passed e = inr (accepted-call e)

@@ -26,7 +26,7 @@ use Rattle.walk.specs.Walk.{Tally, running, spent, opens, walk, fresh}
 use Rattle.trace.specs.Trace.{Beside, Host, begin, lends, hostAfter, drive, orderIn, opensAt, stepped, Refused, Accepted, countsIn, Begins}
 use Rattle.trace.proofs.Call.{each-call}
 use Rattle.trace.proofs.Own.{opened-own, table-own}
-use Rattle.trace.proofs.Walked.{courseOf, calm-course, settle-after, walk-append}
+use Rattle.walk.proofs.Walked.{courseOf, calm-course, settle-after, walk-append}
 use Rattle.trace.proofs.Pivot.{Firm, firm-first, firm-after}
 
 -- a tape that begins with the draws of a and b begins with those of a, and goes on with those of b

@@ -23,7 +23,7 @@ use Rattle.solver.specs.Calls.{call, solveDoes, solveCall}
 use Rattle.trace.specs.Trace.{Beside, Host, begin, hostAfter, drive, orderIn, Refused, Accepted, countsIn, Counted, Begins, Agrees, Never}
 use Rattle.trace.proofs.Verdict.{never-given}
 use Rattle.trace.proofs.Call.{each-call, refusal}
-use Rattle.trace.proofs.Walked.{courseOf, walk-append, walk-stopped}
+use Rattle.walk.proofs.Walked.{courseOf, walk-append, walk-stopped}
 use Rattle.trace.proofs.Reached.{tallyOf, Reached, reached, order-kept}
 
 -- a run is its calls one by one

@@ -1,58 +1,15 @@
--- What a passed step order says of what was lent, and which numbers an order cannot give.
+-- Which numbers an order cannot give.
 -- Assumes nothing.
 use mathlib.Core.Bool.{Bool, true, false, not, _&&_}
 use mathlib.Core.List.{List}
-use mathlib.Core.Path.{_≡_, refl, ap}
+use mathlib.Core.Path.{_≡_, ap}
 use Prim.Native.Nat.{ℕ, _<_, _≤_}
 use native.Mathlib.Omega.{arith}
-use lib.Dec.{eqb}
 use lib.ListN.{length}
-use borrow.Author.Tests.{eqb-true}
 use Rattle.course.specs.declared.Place.{Place}
 use Rattle.course.specs.declared.Order.{Order}
 use Rattle.solver.specs.Told.{Told, passed, refused, Line, refuse, _or_}
 use Rattle.solver.specs.Refusals.{differs, outside, anyPlace, tooLarge, zeroDraw, wholeTable, placed, ended, maskAt, nonzeroAt, zeroPivot, no1, no2, no3, no4, no5, no6, no7step, no8step, no9, no10, no11, no12, sizes, placing, lending, stepOrder}
-
-both : (a b : Told) → a or b ≡ passed → (a ≡ passed) × (b ≡ passed)
-unfolding _or_
-both passed b e = (refl, e)
-both (refused l) b e = let z : _≡_ {A = ℕ} 0 1 = cc in absurd (let n : ⊥ = omega arith in n)
-
-unmet : (k : ℕ) (test : Bool) (d : List ℕ) → refuse k test d ≡ passed → test ≡ false
-unmet k true d e = let z : _≡_ {A = ℕ} 0 1 = cc in absurd (let n : ⊥ = omega arith in n)
-unmet k false d e = refl
-
-not-false : (b : Bool) → not b ≡ false → b ≡ true
-not-false true e = refl
-not-false false e = cc
-
-alike : (a b : ℕ) → differs a b ≡ false → a ≡ b
-alike a b e = eqb-true a b (not-false (eqb a b) e)
-
--- what was lent to a call that passed: a table t, and parts of the tapes of a and b draws
-pub record Passed (o : Order) (p : Place) (t : List ℕ) (a b : ℕ) : Type 0 where
-  pub table : length t ≡ wholeTable o
-  pub listed : placed (o .size) p ≡ true
-  pub going : ended p ≡ false
-  pub mask : a ≡ maskAt o p
-  pub nonzero : b ≡ nonzeroAt o p
-
-module _ (o : Order) (p : Place) (t : List ℕ) (solution mask : ℕ) (nonzero : List ℕ) where
-  pub passes : stepOrder o p t solution mask nonzero ≡ passed → Passed o p t mask (length nonzero)
-  unfolding stepOrder placing lending no4 no7step no8step no10 no11
-  passes e =
-      let later = both _ _ (both _ _ e .1) in
-      let place = both _ _ (later .0) in
-      let found = both _ _ (place .0) in
-      let lent = both _ _ (both _ _ (later .1) .0) in
-      let tapes = both _ _ (lent .0) in
-      record {
-        table = alike (length t) (wholeTable o) (unmet _ _ _ (both _ _ (found .0) .0));
-        listed = not-false _ (unmet _ _ _ (found .1));
-        going = unmet _ _ _ (place .1);
-        mask = alike mask (maskAt o p) (unmet _ _ _ (both _ _ (tapes .0) .1));
-        nonzero = alike (length nonzero) (nonzeroAt o p) (unmet _ _ _ (tapes .1));
-      }
 
 -- an order that does not give refusal k
 pub record Without (k : ℕ) (v : Told) : Type 0 where

@@ -2,7 +2,7 @@
 -- Assumes nothing.
 use mathlib.Core.Bool.{true}
 use mathlib.Core.List.{List}
-use mathlib.Core.Path.{_≡_, _∙_}
+use mathlib.Core.Path.{_≡_, refl, _∙_}
 use Prim.Native.Nat.{ℕ, _+_, _-_, _<_, _≤_}
 use native.Mathlib.Omega.{arith}
 use lib.ListN.{length, length-set}
@@ -12,7 +12,7 @@ use Rattle.course.specs.declared.Step.{Step}
 use Rattle.course.specs.declared.Step.the-variants.{Mix, Check, Scale, Clear, Open}
 use Rattle.course.specs.declared.Order.{Order}
 use Rattle.course.specs.StepList.{Sizes, inList}
-use Rattle.course.proofs.Within.{within}
+use Rattle.course.proofs.Within.{Within, within}
 use Rattle.walk.specs.Act.{Held, opened, acted}
 
 -- m rows of m+1 columns
@@ -36,30 +36,27 @@ pub record Lengths (o : Order) (h : Held) : Type 0 where
   pub table : length (h .table) ≡ tableBytes (o .shares) (o .size) (o .size + 1)
   pub solution : length (h .solution) ≡ o .size
 
-pub acted-length : (o : Order) (s : Step) → inList (o .size) s ≡ true → (ds nz : List ℕ) (h : Held) → Lengths o h → Lengths o (acted o s ds nz h)
-unfolding acted
-acted-length o (Mix j k) i ds nz h l =
-    let w = within (o .size) (Mix j k) i in
-    record {
-      table = mix-length (o .shares) (o .size) (o .size + 1) (h .table) (l .table) (o .field) (pivot (w .0) (omega arith)) k ds;
-      solution = l .solution;
-    }
-acted-length o (Check j) i ds nz h l = l
-acted-length o (Scale j) i ds nz h l =
-    let w = within (o .size) (Scale j) i in
-    record {
-      table = scale-length (o .shares) (o .size) (o .size + 1) (h .table) (l .table) (o .field) (pivot (w .0) (w .1)) nz ds;
-      solution = l .solution;
-    }
-acted-length o (Clear j k) i ds nz h l =
-    let w = within (o .size) (Clear j k) i in
-    record {
-      table = clear-length (o .shares) (o .size) (o .size + 1) (h .table) (l .table) (o .field) (under (w .0) (w .1) (w .2)) j ds;
-      solution = l .solution;
-    }
-acted-length o (Open j) i ds nz h l =
-    let w = within (o .size) (Open j) i in
-    record {
-      table = lift-length (o .shares) (o .size) (o .size + 1) (h .table) (l .table) (o .field) (pivot (w .0) (w .1)) (opened o (Open j) ds h);
-      solution = length-set (h .solution) (j - 1) (opened o (Open j) ds h) ∙ l .solution;
-    }
+module _ (o : Order) where
+  abbrev m : ℕ
+  m = o .size
+
+  pub acted-sized : (s : Step) → Within m s → (ds nz : List ℕ) (h : Held)
+      → length (h .table) ≡ tableBytes (o .shares) m (m + 1) → length (acted o s ds nz h .table) ≡ tableBytes (o .shares) m (m + 1)
+  unfolding acted
+  acted-sized (Mix j k) u ds nz h l = mix-length (o .shares) m (m + 1) (h .table) l (o .field) (pivot (u .0) (omega arith)) k ds
+  acted-sized (Check j) u ds nz h l = l
+  acted-sized (Scale j) u ds nz h l = scale-length (o .shares) m (m + 1) (h .table) l (o .field) (pivot (u .0) (u .1)) nz ds
+  acted-sized (Clear j k) u ds nz h l = clear-length (o .shares) m (m + 1) (h .table) l (o .field) (under (u .0) (u .1) (u .2)) j ds
+  acted-sized (Open j) u ds nz h l = lift-length (o .shares) m (m + 1) (h .table) l (o .field) (pivot (u .0) (u .1)) (opened o (Open j) ds h)
+
+  pub acted-places : (s : Step) (ds nz : List ℕ) (h : Held) → length (acted o s ds nz h .solution) ≡ length (h .solution)
+  unfolding acted
+  acted-places (Mix j k) ds nz h = refl
+  acted-places (Check j) ds nz h = refl
+  acted-places (Scale j) ds nz h = refl
+  acted-places (Clear j k) ds nz h = refl
+  acted-places (Open j) ds nz h = length-set (h .solution) (j - 1) (opened o (Open j) ds h)
+
+  pub acted-length : (s : Step) → inList m s ≡ true → (ds nz : List ℕ) (h : Held) → Lengths o h → Lengths o (acted o s ds nz h)
+  acted-length s i ds nz h l =
+      record { table = acted-sized s (within m s i) ds nz h (l .table); solution = acted-places s ds nz h ∙ l .solution }

@@ -4,7 +4,8 @@ use mathlib.Core.Path.{_∙_}
 use borrow.Author.Needs.{needs}
 use Rattle.course.specs.StepList.{maskCost, nonzeroCost}
 use Rattle.solver.specs.Refusals.{zeroPivotOf}
-use Rattle.solver.proofs.Ready.{shape, pivot-cell, pivot-told}
+use Rattle.walk.proofs.Acted.{square}
+use Rattle.solver.proofs.Ready.{pivot-cell, pivot-told}
 use Rattle.solver.proofs.checks.pivot_is_zero.Statement.{statement}
 use Rattle.solver.proofs.checks.pivot_is_zero.Tie as tie
 
@@ -26,7 +27,7 @@ opens-zero-requires c κs =
     let pre = c .before .before .before .before .before .before .pre in
     let listed = rw (c .before .s .given .1) at (pre .1 .0) in
     let long = rw (c .before .s .given .1) at (pre .1 .1 .1 .0) in
-    (shape _ (pre .0), (pivot-cell (c .before .before .before .before .before .before .args .o) _ listed, (pre .1 .1 .0, long .0, long .1)))
+    (square (pre .0), (pivot-cell (c .before .before .before .before .before .before .args .o) _ listed, (pre .1 .1 .0, long .0, long .1)))
 
 enum-told-3 : tie.Need-enum-told-3
 enum-told-3 c = search needs
