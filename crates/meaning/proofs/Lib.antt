@@ -1,7 +1,6 @@
 pub mod Elements
 pub mod Grid
 pub mod Outcomes
-pub mod Scaling
 pub mod Link
 pub mod Listed
 pub mod Acted

@@ -18,7 +18,7 @@ use Rattle.table.specs.Steps.{mix, check, scale, clear, opens, lift}
 use Rattle.table.specs.Values.{value}
 use Rattle.table.proofs.Cells.{in-row}
 use Rattle.table.proofs.Entries.{mix-kept, clear-kept, scale-kept, lift-kept}
-use Rattle.table.proofs.Values.{kept-value, mix-value, check-value, clear-value, opens-value, lift-value}
+use Rattle.table.proofs.Values.{kept-value, mix-value, check-value, clear-value, opens-value, lift-value, scale-value}
 use Rattle.algebra.specs.Steps.{put, flag, mixRow, clearRow, openRow, scale as scaleTable}
 use Rattle.algebra.proofs.Arithmetic.{neg-mul}
 use Rattle.algebra.proofs.Entries.{flag-one, flag-nought, put-in, put-row, put-low, open-at, open-row, open-column}
@@ -28,7 +28,6 @@ use Rattle.meaning.specs.Meaning.{valueOf}
 use Rattle.meaning.proofs.Elements.{Element, size, K, O, of, of-add, of-mul, of-neg, of-inv, of-zero, of-one, of-same}
 use Rattle.meaning.proofs.Grid.{grid, grid-in, grid-at, grid-inside}
 use Rattle.meaning.proofs.Outcomes.{value-lt}
-use Rattle.meaning.proofs.Scaling.{scale-any}
 
 -- ---- the flag of a value
 
@@ -133,7 +132,7 @@ module _ (o : Order) (some : 0 < o .shares) (t : List ℕ) (lt : length t ≡ ta
         row-link (scale f n w j j nz ds t) P _
         (λ s d R h. kept (scale f n w j j nz ds t) s d (scale-kept n m w t lt f P nz ds R h))
         (λ c h R.
-        ap (of f) (scale-any f n m w t lt some P nz ds nonzero c h (R .column-high)) ∙ of-mul f _ _
+        ap (of f) (scale-value f n m w t lt P nz ds nonzero some c h (R .column-high)) ∙ of-mul f _ _
         ∙ ap₂ (O f .mul) (of-inv f _ ∙ ap (O f .inv) (at j j P)) (at j c R))
         (scale-inside (K f) m (j - 1) (j - 1) (O f .inv (grid o t (j - 1) (j - 1))) (grid o t) (omega arith) (grid-inside o t))
 

@@ -29,6 +29,7 @@ use Rattle.meaning.proofs.Grid.{grid}
 use Rattle.meaning.proofs.Link.{lift-kept-value}
 use Rattle.meaning.proofs.Listed.{counted, countedAll, list-counted}
 use Rattle.walk.proofs.Acted.{pivot, acted-sized, acted-places}
+use Rattle.walk.proofs.Walked.{walk-append}
 use Rattle.meaning.proofs.Acted.{Sized, open-value, leaves, act-link}
 
 -- no draw that a full solve takes from the nonzero tape is 0
@@ -133,11 +134,6 @@ module _ (o : Order) (some : 0 < o .shares) (ms zs : List ℕ) (nonzero : NoZero
   walk-sound [] b i c g = g
   walk-sound (s ∷ a) b i c g = walk-sound a b (i .1) (then o ms zs s c) (next-sound s (a ++ b) (within m s (i .0)) c g)
 
-  walk-append : (a b : List Step) (c : Course) → walk o ms zs (a ++ b) c ≡ walk o ms zs b (walk o ms zs a c)
-  unfolding walk
-  walk-append [] b c = refl
-  walk-append (s ∷ a) b c = walk-append a b (then o ms zs s c)
-
   -- Open writes its own, and keeps the last entries of its row and those below
   opened-known : (n : ℕ) → suc n ≤ m → (ds nz : List ℕ) (h : Held) → Sized o h → length (h .solution) ≡ m
       → ((j : ℕ) → suc n < j → j ≤ m → getD (h .solution) (j - 1) 0 ≡ valueOf o (h .table) j (m + 1))
@@ -197,7 +193,7 @@ module _ (o : Order) (some : 0 < o .shares) (ms zs : List ℕ) (nonzero : NoZero
     pub walked-known : Known o 0 (walk o ms zs (stepList m) (running (fresh (held t x))))
     unfolding begin stepList
     walked-known =
-        rw (walk-append (columns m 1 m) (openings m) begin)
+        rw (walk-append o ms zs (columns m 1 m) (openings m) begin)
         (openings-known m (le-refl m) (walk o ms zs (columns m 1 m) begin)
         (walk-sound (columns m 1 m) (openings m) (all-in m) begin begin-sound)
         (none-known (walk o ms zs (columns m 1 m) begin)))

@@ -9,7 +9,7 @@ use native.Mathlib.Nat.{mod-lt, mod-eq-of-lt}
 use lib.ListN.{length, getD, drop, List·getD-append}
 use lib.Seq.{getD-at}
 use Rattle.field.specs.Field.{Ops, Ring, Field, inv}
-use Rattle.field.proofs.Inverses.{mul-inv, inv-unique, inv-zero}
+use Rattle.field.proofs.Inverses.{mul-inv, inv-unique, inv-zero, zero-mul}
 use Rattle.sharing.specs.Run.{tab}
 use Rattle.sharing.specs.Rules.{sum, drawAt, scaled, blindTurn, blinded, blindedValue, factors, fourOf}
 use Rattle.sharing.specs.Lists.{productAll}
@@ -134,9 +134,16 @@ module _ (F : Ops) (L : Field F) where
         ∙ R .mul-comm (inv F u) u
         ∙ mul-inv F L u (blindedValue-nonzero n)
 
-    pub factors-inverse : (sum F s ≡ 0 → ⊥) → productAll F (factors F nz ds s) ≡ inv F (sum F s)
-    factors-inverse n =
-        inv-unique F L (sum F s) (λ e. n (sym (mod-eq-of-lt (sum-lt F R s)) ∙ e)) (productAll-lt (factors F nz ds s)) (inversion n)
+    -- also where the value is 0: then both are 0
+    pub factors-inverse : productAll F (factors F nz ds s) ≡ inv F (sum F s)
+    factors-inverse = elim (ℕ-discrete (sum F s) 0) [
+      | yes z ↦
+          let b : ℕ = blinds F nz (length s - 1) in
+          productAll-factors nz ds s ∙ ap (λ (x : ℕ). F .mul x b) (last-zero nz ds s z) ∙ zero-mul F L b
+          ∙ sym (inv-zero F L (sum F s) (ap (λ (x : ℕ). x % F .q) z ∙ mod-eq-of-lt (R .pos)))
+      | no n ↦
+          inv-unique F L (sum F s) (λ e. n (sym (mod-eq-of-lt (sum-lt F R s)) ∙ e)) (productAll-lt (factors F nz ds s)) (inversion n)
+    ]
 
     -- .. and nothing else
     pub zero-last : inv F (blindedValue F nz ds s) ≡ 0 → sum F s ≡ 0

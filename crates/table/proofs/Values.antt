@@ -180,10 +180,10 @@ module _ (f n rows w : ℕ) (t : List ℕ) (lt : length t ≡ tableBytes n rows 
     drawn : (k : ℕ) → k < length pivot - 1 → drawAt F nz k ≡ 0 → ⊥
     drawn k h = nonzero k (omega (arith, pivot-length))
 
-    pub scale-value : 0 < n → (val r j ≡ 0 → ⊥) → (c : ℕ) → j ≤ c → c ≤ w
+    pub scale-value : 0 < n → (c : ℕ) → j ≤ c → c ≤ w
         → value F n w (scale f n w r j nz ds t) r c ≡ F .mul (inv F (val r j)) (val r c)
     unfolding scale value pivot
-    scale-value some m =
+    scale-value some =
         let fs : List ℕ = factors F nz ds pivot in
         let d : List ℕ = drop (inversionDraws n) ds in
         let lr : length (rowFrom n w r j t) ≡ columnsFrom w j * n = rowFrom-length n rows w t lt P in
@@ -193,7 +193,7 @@ module _ (f n rows w : ℕ) (t : List ℕ) (lt : length t ≡ tableBytes n rows 
         (λ u h.
         ap (sum F) (putRow-same n rows w t lt P _ (scaleAll-length F n _ _ lr fs d) u h)
         ∙ scaleAll-value F L n _ _ lr fs d (factors-length F nz ds pivot (omega arith) ∙ lp) u h
-        ∙ ap₂ (F .mul) (factors-inverse F L nz ds pivot drawn m) (ap (sum F) (entry-row n rows w t lt P u h)))
+        ∙ ap₂ (F .mul) (factors-inverse F L nz ds pivot drawn) (ap (sum F) (entry-row n rows w t lt P u h)))
 
     -- the product that an Inversion opens is 0 only where the pivot's value is
     pub zero-pivot : blindedValue F nz ds (entry n w r j t) ≡ 0 → val r j ≡ 0

@@ -43,10 +43,10 @@ module _ (f n rows w : ℕ) (t : List ℕ) (lt : length t ≡ tableBytes n rows 
       row-values r j _ (mix f n w r j k ds t) (mix-value f n rows w t lt some P K ds) (mix-kept n rows w t lt f P k ds Q)
 
   pub scale-values : 0 < n → {r j : ℕ} → Place rows w r j → (nz ds : List ℕ) → ((k : ℕ) → k < n - 1 → drawAt F nz k ≡ 0 → ⊥)
-      → (val r j ≡ 0 → ⊥) → value F n w (scale f n w r j nz ds t) s d ≡ scaleValues F r j val s d
+      → value F n w (scale f n w r j nz ds t) s d ≡ scaleValues F r j val s d
   unfolding scaleValues
-  scale-values some {r} {j} P nz ds nonzero m =
-      row-values r j _ (scale f n w r j nz ds t) (scale-value f n rows w t lt P nz ds nonzero some m) (scale-kept n rows w t lt f P nz ds Q)
+  scale-values some {r} {j} P nz ds nonzero =
+      row-values r j _ (scale f n w r j nz ds t) (scale-value f n rows w t lt P nz ds nonzero some) (scale-kept n rows w t lt f P nz ds Q)
 
   pub clear-values : {k r j : ℕ} → Place rows w k j → Place rows w r j → (ds : List ℕ)
       → value F n w (clear f n w r j k ds t) s d ≡ clearValues F r j k val s d
