@@ -9,4 +9,3 @@ pub mod Square
 pub mod StepList
 pub mod Bounded
 pub mod Numbers
-pub mod Factors

@@ -1,7 +1,6 @@
 -- 01: "Its next place is worked out from the record by value and handed back: the next in the list, done after the last, or stopped at j
 -- where Check opened 1." A record whose place is ended or not in the list stays as it is.
 -- Assumes nothing.
-use mathlib.Core.Bool.{Bool}
 use mathlib.Core.List.{List, [], _∷_}
 use mathlib.Core.Path.{_≡_}
 use Prim.Native.Nat.{ℕ, _+_, _-_}

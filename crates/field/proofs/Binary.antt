@@ -1,16 +1,13 @@
 -- The laws of a field of polynomials modulo m: from the tests of m at the powers of x, and the test that each element but 0 has an inverse.
 -- Assumes nothing.
-use mathlib.Core.Path.{_≡_, refl, sym, ap, ap₂, _∙_, subst, subst⁻¹}
-use mathlib.Core.Bool.{Bool, true, false}
-use Prim.Native.Nat.{ℕ, zero, suc, _+_, _-_, _*_, _/_, _%_, _^_, _<_}
+use mathlib.Core.Path.{_≡_, sym, ap, ap₂, _∙_}
+use Prim.Native.Nat.{ℕ, _-_, _%_, _^_, _<_}
 use native.Mathlib.Nat.{mod-lt, mod-eq-of-lt, mod-mod}
 use lib.Pow.{pow-pos, pow-lt}
 use lib.Bits.{bitXor, xor-lt, xor-comm, xor-zero-r, xor-self, xor-mod, bitAnd, and-mod, and-comm}
-use lib.Dec.{T, eqb, ltb}
 use Rattle.field.specs.Poly.{product}
-use Rattle.field.specs.Field.{Ops, Ring, Field, binary, bitwise}
+use Rattle.field.specs.Field.{Ring, Field, binary, bitwise}
 use Rattle.field.proofs.Xor.{xor-assoc, and-assoc, and-xor}
-use Rattle.field.proofs.Linear.{all, all-at}
 use Rattle.field.proofs.Product.{Modulus, product-bilinear, product-lt, product-one, product-comm, product-assoc}
 
 -- sums modulo 2^w

@@ -3,11 +3,11 @@
 use mathlib.Core.Path.{_≡_, refl, sym, ap, ap₂, _∙_, subst, subst⁻¹}
 use mathlib.Core.Bool.{Bool, true, false}
 use mathlib.Core.Logic.{⊎-elim}
-use Prim.Native.Nat.{ℕ, zero, suc, _+_, _*_, _/_, _%_, _^_, _<_, _≤_}
-use native.Mathlib.Nat.{mod-lt, zero-mul, one-mul, mul-zero, add-zero, pow-succ', lt-of-lt-of-le, le-of-eq, eq-or-lt-of-le, le-of-suc-le-suc, not-suc-le-zero, mul-comm, two-mul, le-suc, lt-suc-self, lt-trans, mul-lt-mul-of-pos-left, le-refl, div-lt-iff-lt-mul}
+use Prim.Native.Nat.{ℕ, zero, suc, _*_, _/_, _%_, _^_, _<_}
+use native.Mathlib.Nat.{mod-lt, zero-mul, one-mul, add-zero, pow-succ', eq-or-lt-of-le, le-of-suc-le-suc, not-suc-le-zero, lt-suc-self, lt-trans, div-lt-iff-lt-mul}
 use lib.Arith.{lt-one}
-use lib.Pow.{pow-pos, split, shr-lt}
-use lib.Dec.{T, eqb, eqb→eq, ltb, ltb→lt, lit<}
+use lib.Pow.{pow-pos, split}
+use lib.Dec.{T}
 use lib.Bits.{bitXor, xor-self, xor-zero-r, xor-shr, xor-mod, xor-shifted, xor-block, xor-lt, differ}
 use Rattle.field.proofs.Xor.{bit, bit-lt, xor-odd, xor-swap}
 

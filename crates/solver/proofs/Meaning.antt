@@ -2,12 +2,10 @@
 -- Assumes nothing.
 use mathlib.Core.List.{List}
 use mathlib.Core.Path.{_≡_, refl, sym, ap, _∙_, subst}
-use Prim.Native.Nat.{ℕ, _<_}
-use native.Mathlib.Omega.{arith}
+use Prim.Native.Nat.{ℕ}
 use lib.ListN.{length, take}
 use lib.Seq.{getD-take, length-take-le}
 use Rattle.field.specs.Field.{draw, fieldOf}
-use Rattle.sharing.specs.Rules.{drawAt}
 use Rattle.course.specs.declared.Order.{Order}
 use Rattle.course.specs.StepList.{fullNonzero}
 use Rattle.walk.specs.declared.Ending.{Ending}

@@ -1,7 +1,7 @@
 -- The public calls: what each answers, in 01's words, and every lent byte afterwards, for every input.
 -- Assumes nothing.
 use mathlib.Core.List.{List}
-use Prim.Native.Nat.{ℕ, _-_}
+use Prim.Native.Nat.{ℕ}
 use lib.Dec.{eqb}
 use lib.ListN.{length}
 use Rattle.field.specs.Field.{pick}
@@ -20,7 +20,6 @@ use Rattle.walk.specs.Act.{Held, held, opened, acted}
 use Rattle.walk.specs.Walk.{Solution, solved}
 use Rattle.walk.specs.Dealing.{dealt, gathered}
 use Rattle.meaning.specs.Meaning.{Means}
-use Rattle.solver.specs.declared.Refusal.{Refusal}
 use Rattle.solver.specs.declared.Starting.{Starting}
 use Rattle.solver.specs.declared.Starting.the-variants as Start
 use Rattle.solver.specs.declared.Counting.{Counting}

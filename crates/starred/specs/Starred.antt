@@ -2,7 +2,7 @@
 -- Assumes nothing.
 use mathlib.Core.List.{List, [], _∷_, _++_, map}
 use mathlib.Core.Path.{_≡_, refl}
-use Prim.Native.Nat.{ℕ, suc, _+_, _*_}
+use Prim.Native.Nat.{ℕ, _+_, _*_}
 use lib.ListN.{replicate}
 use Rattle.field.specs.Poly.{times, left, product as polynomialProduct}
 use Rattle.field.specs.Field.{F16, F256, fieldOf, width, bitwise, inv, inverseBelow}

@@ -4,7 +4,7 @@ use native.Mathlib.Omega.{arith}
 use mathlib.Core.Path.{_≡_}
 use Prim.Native.Nat.{suc, _-_, _≤_}
 use lib.ListN.{length}
-use Rattle.sharing.specs.Run.{run, before, pairs, pairsOf, overPairs}
+use Rattle.sharing.specs.Run.{run, before, pairsOf, overPairs}
 use Rattle.sharing.proofs.Loops.{run-none, run-next, run-done}
 use Rattle.sharing.proofs.Pairs.{pairs-room}
 use Rattle.sharing.specs.Rules.{pairRefreshTurn, pairRefresh}
