@@ -1,0 +1,51 @@
+-- 01's examples of desk's line, each by computation. Those that 01 gives as counts or as a refusal are here as the line that says so.
+-- Assumes nothing.
+use mathlib.Core.List.{List, [], _∷_, map}
+use mathlib.Core.Path.{_≡_, refl}
+use Prim.Native.Nat.{ℕ}
+use Prim.Native.String.{String}
+use Rattle.sharing.specs.Rules.{folds}
+use Rattle.table.specs.Costs.{flagCost, mixCost, checkCost, scaleCost, scaleNonzero, clearCost, openCost}
+use Rattle.course.specs.StepList.{each, column, columns, openings, stepList, maskCost, nonzeroCost, sumOver, sums}
+use Rattle.solver.specs.Told.{_or_}
+use Rattle.solver.specs.Refusals.{outside, no1, no2, no3, sizes}
+use Rattle.solver.specs.Calls.{call, countsCall}
+use Rattle.desk_line.specs.Text.{ascii, spelled, decimal}
+use Rattle.desk_line.specs.Line.{refusedLine, countsLine, deskLine}
+
+pub record Row : Type 0 where
+  pub input : List ℕ
+  pub line : String
+
+abbrev row : List ℕ → String → Row
+row input line = record { input = input; line = line }
+
+pub rows : List Row
+rows =
+    -- n=2, m=1; blank shares; F256, n=4, m=96
+    row (0x00 ∷ 0x10 ∷ 0x02 ∷ 0x01 ∷ []) "3 12 1\n"
+    ∷ row (0x00 ∷ 0x10 ∷ 0x00 ∷ 0x01 ∷ []) "refused 2\n"
+    ∷ row (0x01 ∷ 0x00 ∷ 0x04 ∷ 0x60 ∷ []) "9408 3778608 288\n"
+    -- no bytes, three and five
+    ∷ row [] "refused 13\n"
+    ∷ row (0x00 ∷ 0x10 ∷ 0x02 ∷ []) "refused 13\n"
+    ∷ row (0x00 ∷ 0x10 ∷ 0x02 ∷ 0x01 ∷ 0x00 ∷ []) "refused 13\n"
+    -- 13 comes first, then 1: field 7 and shares 0 together
+    ∷ row (0x00 ∷ 0x07 ∷ 0x00 ∷ []) "refused 13\n"
+    ∷ row (0x00 ∷ 0x07 ∷ 0x00 ∷ 0x01 ∷ []) "refused 1\n"
+    -- the field's low byte first is another number
+    ∷ row (0x10 ∷ 0x00 ∷ 0x02 ∷ 0x01 ∷ []) "refused 1\n"
+    -- shares 1 and 5; sizes 0 and 97
+    ∷ row (0x00 ∷ 0x10 ∷ 0x01 ∷ 0x01 ∷ []) "refused 2\n"
+    ∷ row (0x00 ∷ 0x10 ∷ 0x05 ∷ 0x01 ∷ []) "refused 2\n"
+    ∷ row (0x00 ∷ 0x10 ∷ 0x02 ∷ 0x00 ∷ []) "refused 3\n"
+    ∷ row (0x00 ∷ 0x10 ∷ 0x02 ∷ 0x61 ∷ []) "refused 3\n"
+    -- n=2, m=2; n=3, m=1; F256, n=2, m=1
+    ∷ row (0x00 ∷ 0x10 ∷ 0x02 ∷ 0x02 ∷ []) "8 36 2\n"
+    ∷ row (0x00 ∷ 0x10 ∷ 0x03 ∷ 0x01 ∷ []) "3 35 2\n"
+    ∷ row (0x01 ∷ 0x00 ∷ 0x02 ∷ 0x01 ∷ []) "3 14 1\n"
+    ∷ []
+
+pub examples : map (λ (r : Row). deskLine (r .input)) rows ≡ map (λ (r : Row). ascii (r .line)) rows
+unfolding rows ascii spelled decimal refusedLine countsLine deskLine call countsCall outside no1 no2 no3 sizes _or_ folds flagCost mixCost checkCost scaleCost scaleNonzero clearCost openCost each column columns openings stepList maskCost nonzeroCost sumOver sums
+examples = refl

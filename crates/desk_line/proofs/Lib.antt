@@ -1,0 +1,4 @@
+pub mod Decimal
+pub mod Written
+pub mod Lines
+pub mod Examples

@@ -1,0 +1,442 @@
+// The step call on a lent record and the step call by value, side by side. Stands on lent and solver.
+// Two systems of F16 with two shares and two unknowns are stepped through, one to its solution and one to its stop, with refused calls between;
+// then calls on records that a host made up. Each line has the answer, the record after the call, the table (an entry is its two shares) and the
+// solution, of the lent form, and whether the form by value came to the same.
+use course::Place;
+use course::Progress;
+use course::Step;
+use solver::Refusal;
+use solver::Starting;
+use solver::Stepped;
+use solver::Stepping;
+
+// A host's own: the record, the table and the solution.
+struct Host {
+    record: Progress,
+    table: [u8; 12],
+    solution: [u8; 2],
+}
+
+// One call's answer, and the host after it.
+struct Told {
+    answer: Stepping,
+    host: Host,
+}
+
+// A host of each form.
+struct Both {
+    lent: Host,
+    value: Host,
+}
+
+// A case of an enum as a number, with what it holds.
+struct Shown {
+    case: u64,
+    first: u64,
+    second: u64,
+}
+
+fn case(number: u64, first: u64, second: u64) -> Shown {
+    Shown {
+        case: number,
+        first,
+        second,
+    }
+}
+
+fn wide(n: usize) -> u64 {
+    n as u64
+}
+
+// 01's number of a refusal, and its detail.
+fn show_refusal(r: Refusal) -> Shown {
+    match r {
+        Refusal::Field(q) => case(1, q, 0),
+        Refusal::Shares(n) => case(2, n, 0),
+        Refusal::Size(m) => case(3, m, 0),
+        Refusal::Input(k) => case(4, wide(k), 0),
+        Refusal::Target(k) => case(5, wide(k), 0),
+        Refusal::Entry(k) => case(6, wide(k), 0),
+        Refusal::MaskTape(k) => case(7, wide(k), 0),
+        Refusal::NonzeroTape(k) => case(8, wide(k), 0),
+        Refusal::ZeroDraw(k) => case(9, wide(k), 0),
+        Refusal::OffList => case(10, 0, 0),
+        Refusal::Ended => case(11, 0, 0),
+        Refusal::ZeroPivot(j) => case(12, j, 0),
+    }
+}
+
+fn value(x: u8) -> u64 {
+    x as u64
+}
+
+// The numbers after the refusals' are the other answers'.
+fn show_answer(a: Stepping) -> Shown {
+    match a {
+        Stepping::Moved => case(13, 0, 0),
+        Stepping::Opened(j, x) => case(14, j, value(x)),
+        Stepping::Stopped(j) => case(15, j, 0),
+        Stepping::Done(x) => case(16, value(x), 0),
+        Stepping::Refused(r) => show_refusal(r),
+    }
+}
+
+fn show_step(s: Step) -> Shown {
+    match s {
+        Step::Mix { j, k } => case(1, j, k),
+        Step::Check(j) => case(2, j, 0),
+        Step::Scale(j) => case(3, j, 0),
+        Step::Clear { j, k } => case(4, j, k),
+        Step::Open(j) => case(5, j, 0),
+    }
+}
+
+fn show_place(p: Place) -> Shown {
+    match p {
+        Place::At(s) => show_step(s),
+        Place::Stopped(j) => case(6, j, 0),
+        Place::Done => case(7, 0, 0),
+    }
+}
+
+fn alike(a: Shown, b: Shown) -> bool {
+    a.case == b.case && a.first == b.first && a.second == b.second
+}
+
+fn same_record(p: Progress, q: Progress) -> bool {
+    let a = p.place;
+    let b = q.place;
+    p.field == q.field
+        && p.shares == q.shares
+        && p.size == q.size
+        && alike(show_place(a), show_place(b))
+}
+
+fn same_bytes(g: Host, h: Host) -> bool {
+    let t = g.table;
+    let u = h.table;
+    let x = g.solution;
+    let y = h.solution;
+    check::same(&t, &u) && check::same(&x, &y)
+}
+
+fn same(g: Told, h: Told) -> bool {
+    let a = g.answer;
+    let b = h.answer;
+    let i = g.host;
+    let k = h.host;
+    let p = i.record;
+    let q = k.record;
+    alike(show_answer(a), show_answer(b)) && same_record(p, q) && same_bytes(i, k)
+}
+
+fn number(n: u64) {
+    io::write_all(1, b" ");
+    io::print_decimal(1, n);
+}
+
+fn print_answer(a: Shown) {
+    let c = a.case;
+    match c {
+        13 => {
+            io::write_all(1, b"moved");
+        }
+        14 => {
+            io::write_all(1, b"opened");
+            number(a.first);
+            number(a.second);
+        }
+        15 => {
+            io::write_all(1, b"stopped");
+            number(a.first);
+        }
+        16 => {
+            io::write_all(1, b"done");
+            number(a.first);
+        }
+        _ => {
+            io::write_all(1, b"refused");
+            number(a.case);
+            number(a.first);
+        }
+    }
+}
+
+fn print_place(p: Shown) {
+    let c = p.case;
+    match c {
+        1 => {
+            io::write_all(1, b" Mix");
+            number(p.first);
+            number(p.second);
+        }
+        2 => {
+            io::write_all(1, b" Check");
+            number(p.first);
+        }
+        3 => {
+            io::write_all(1, b" Scale");
+            number(p.first);
+        }
+        4 => {
+            io::write_all(1, b" Clear");
+            number(p.first);
+            number(p.second);
+        }
+        5 => {
+            io::write_all(1, b" Open");
+            number(p.first);
+        }
+        6 => {
+            io::write_all(1, b" stopped");
+            number(p.first);
+        }
+        _ => {
+            io::write_all(1, b" done");
+        }
+    }
+}
+
+fn print_record(p: Progress) {
+    number(p.field);
+    number(p.shares);
+    number(p.size);
+    let a = p.place;
+    print_place(show_place(a));
+}
+
+// A byte of F16 as a hexadecimal digit.
+fn digit(x: u8) -> u8 {
+    let d = x % 16;
+    if d < 10 { 48 + d } else { 87 + d }
+}
+
+fn print_table(t: &[u8; 12]) {
+    let text = [
+        b' ',
+        digit(t[0]),
+        digit(t[1]),
+        b' ',
+        digit(t[2]),
+        digit(t[3]),
+        b' ',
+        digit(t[4]),
+        digit(t[5]),
+        b' ',
+        digit(t[6]),
+        digit(t[7]),
+        b' ',
+        digit(t[8]),
+        digit(t[9]),
+        b' ',
+        digit(t[10]),
+        digit(t[11]),
+    ];
+    io::write_all(1, &text);
+}
+
+fn print_solution(x: &[u8; 2]) {
+    let text = [b' ', digit(x[0]), b' ', digit(x[1])];
+    io::write_all(1, &text);
+}
+
+fn print_host(h: Host) {
+    let p = h.record;
+    let t = h.table;
+    let x = h.solution;
+    io::write_all(1, b" | record");
+    print_record(p);
+    io::write_all(1, b" | table");
+    print_table(&t);
+    io::write_all(1, b" | solution");
+    print_solution(&x);
+}
+
+fn print_told(t: Told) {
+    let a = t.answer;
+    let h = t.host;
+    print_answer(show_answer(a));
+    print_host(h);
+}
+
+fn by_lent(h: Host, mask: &[u8], nonzero: &[u8]) -> Told {
+    let p = h.record;
+    let mut t = h.table;
+    let mut x = h.solution;
+    let r = lent::stepped(p, &mut t, &mut x, mask, nonzero);
+    outcome(r, &t, &x)
+}
+
+fn by_value(h: Host, mask: &[u8], nonzero: &[u8]) -> Told {
+    let p = h.record;
+    let mut t = h.table;
+    let mut x = h.solution;
+    let r = solver::step(p, &mut t, &mut x, mask, nonzero);
+    outcome(r, &t, &x)
+}
+
+fn outcome(r: Stepped, t: &[u8; 12], x: &[u8; 2]) -> Told {
+    let a = r.answer;
+    let p = r.next;
+    let h = Host {
+        record: p,
+        table: *t,
+        solution: *x,
+    };
+    Told { answer: a, host: h }
+}
+
+// One call in each form, and its line.
+fn lend(b: Both, mask: &[u8], nonzero: &[u8]) -> Both {
+    let l = b.lent;
+    let v = b.value;
+    let g = by_lent(l, mask, nonzero);
+    let h = by_value(v, mask, nonzero);
+    print_told(g);
+    if same(g, h) {
+        io::write_all(1, b" | same by value\n");
+    } else {
+        io::write_all(1, b" | by value: ");
+        print_told(h);
+        io::write_all(1, b"\n");
+    }
+    let i = g.host;
+    let k = h.host;
+    Both { lent: i, value: k }
+}
+
+// One call that is lent a part of each tape: the mask draws from `a` to before `e`, and the nonzero draws from `b` to before `f`.
+// The third nonzero draw is 0 in F16.
+fn call(hosts: Both, a: usize, e: usize, b: usize, f: usize) -> Both {
+    let mask = [
+        5,
+        27,
+        255,
+        3,
+        16,
+        8,
+        11,
+        90,
+        1,
+        66,
+        13,
+        7,
+        4,
+        201,
+        33,
+        6,
+        12,
+        2,
+        180,
+        9,
+        14,
+        77,
+        10,
+        0,
+        15,
+        21,
+        150,
+        38,
+        19,
+        29,
+        44,
+        53,
+        62,
+        71,
+        88,
+        97,
+    ];
+    let nonzero = [19, 6, 16];
+    if a <= e && e <= 36 && b <= f && f <= 3 {
+        lend(hosts, &mask[a..e], &nonzero[b..f])
+    } else {
+        hosts
+    }
+}
+
+// The same for both forms: the record, the values dealt into shares, and a solution that no step has written yet.
+fn begin(p: Progress, values: &[u8]) -> Both {
+    let draws = [9, 2, 7, 4, 12, 5];
+    let mut t = [0; 12];
+    solver::deal(16, 2, 2, values, &mut t, &draws);
+    let x = [15, 15];
+    let h = Host {
+        record: p,
+        table: t,
+        solution: x,
+    };
+    let g = h;
+    Both { lent: g, value: h }
+}
+
+// Rows (0,1) and (1,0), b = (5,7): x = (7,5).
+fn solved(p: Progress) {
+    let b = begin(p, b"\x00\x01\x05\x01\x00\x07");
+    // a draw short, a draw too many, then Mix(1,2)
+    let b = call(b, 0, 6, 0, 0);
+    let b = call(b, 0, 8, 0, 0);
+    let b = call(b, 0, 7, 0, 0);
+    // Check(1), with a nonzero draw that it has no use for, and with none
+    let b = call(b, 7, 12, 0, 1);
+    let b = call(b, 7, 12, 0, 0);
+    // Scale(1), with no nonzero draw, with one that is 0, and with a good one
+    let b = call(b, 12, 20, 0, 0);
+    let b = call(b, 12, 20, 2, 3);
+    let b = call(b, 12, 20, 0, 1);
+    // Clear(1,2), Check(2), Scale(2)
+    let b = call(b, 20, 23, 0, 0);
+    let b = call(b, 23, 28, 0, 0);
+    let b = call(b, 28, 34, 1, 2);
+    // Open(2), with the draws of both Opens, and with its own; Open(1); and a call on the record that is done
+    let b = call(b, 34, 36, 0, 0);
+    let b = call(b, 34, 35, 0, 0);
+    let b = call(b, 35, 36, 0, 0);
+    call(b, 35, 36, 0, 0);
+}
+
+// Rows (1,2) and (2,4), b = (1,2): stopped at 2.
+fn stopped(p: Progress) {
+    let b = begin(p, b"\x01\x02\x01\x02\x04\x02");
+    let b = call(b, 0, 7, 0, 0);
+    let b = call(b, 7, 12, 0, 0);
+    let b = call(b, 12, 20, 0, 1);
+    // Clear(1,2) with no draws, and with its own; Check(2); and two calls on the record that is stopped
+    let b = call(b, 20, 20, 0, 0);
+    let b = call(b, 20, 23, 0, 0);
+    let b = call(b, 23, 28, 0, 0);
+    let b = call(b, 28, 34, 1, 2);
+    call(b, 28, 28, 0, 0);
+}
+
+// One call on a record that a host made up, with the first system's table.
+fn made_up(field: u64, shares: u64, size: u64, place: Place, e: usize, f: usize) {
+    let p = Progress {
+        field,
+        shares,
+        size,
+        place,
+    };
+    call(begin(p, b"\x00\x01\x05\x01\x00\x07"), 0, e, 0, f);
+}
+
+fn strange() {
+    made_up(7, 0, 2, Place::Done, 0, 0);
+    made_up(16, 5, 2, Place::Done, 0, 0);
+    made_up(16, 2, 97, Place::Done, 0, 0);
+    made_up(16, 2, 3, Place::At(Step::Check(1)), 5, 0);
+    made_up(16, 2, 2, Place::Stopped(3), 0, 0);
+    made_up(16, 2, 2, Place::At(Step::Mix { j: 2, k: 2 }), 7, 0);
+    // the pivot is 0 before Mix
+    made_up(16, 2, 2, Place::At(Step::Scale(1)), 8, 1);
+}
+
+fn main() {
+    let Starting::Fresh(p) = solver::start(16, 2, 2) else {
+        return;
+    };
+    solved(p);
+    io::write_all(1, b"\n");
+    stopped(p);
+    io::write_all(1, b"\n");
+    strange();
+}
