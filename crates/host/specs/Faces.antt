@@ -1,0 +1,83 @@
+-- The calls for C: for every input the code, and every lent byte and word afterwards.
+-- Assumes nothing.
+use mathlib.Core.Bool.{Bool, _&&_}
+use mathlib.Core.List.{List}
+use Prim.Native.Nat.{ℕ}
+use lib.Dec.{eqb}
+use lib.ListN.{length}
+use Rattle.field.specs.Field.{pick}
+use Rattle.course.specs.declared.Order.{Order}
+use Rattle.course.specs.declared.Progress.{Progress}
+use Rattle.walk.specs.Act.{Held}
+use Rattle.solver.specs.Calls.{Says, refuses, gives, Outcome, Nothing, Stride, Lent, startCall, countsCall, dealCall, gatherCall, solveCall, stepCall}
+use Rattle.host.specs.declared.replies.Reply.{Reply}
+use Rattle.host.specs.Words.{progressOf, wordsOf, kept}
+use Rattle.host.specs.Replies.{fourOf, said, freshReply, countsReply, fullReply, endingReply, strideReply}
+
+-- a call that came back: its code, what it was lent as it stands afterwards, and the answer's words
+pub record Back (L : Type 0) : Type 0 where
+  pub code : ℕ
+  pub left : L
+  pub answer : List ℕ
+
+abbrev pub back : {L : Type 0} → ℕ → L → List ℕ → Back L
+back code left answer = record { code = code; left = left; answer = answer }
+
+abbrev pub replied : {L : Type 0} → Reply → L → Back L
+replied r left = back (r .code) left (fourOf r)
+
+-- an outcome in words
+unfoldable pub handed : {A L : Type 0} → (A → Reply) → Outcome A L → Back L
+handed f o = replied (said f (o .says)) (o .left)
+
+-- code 99 and all as found, unless the words are as many as they should be
+unfoldable pub worded : {L : Type 0} → Bool → L → List ℕ → Back L → Back L
+worded right found answer does = pick right does (back 99 found answer)
+
+-- how many words an answer should have, and a record beside it
+abbrev pub four : ℕ → Bool
+four answer = eqb answer 4
+
+unfoldable pub sixFour : ℕ → ℕ → Bool
+sixFour words answer = eqb words 6 && four answer
+
+-- ---- Start: the record is written where it is fresh
+
+unfoldable pub startHanded : List ℕ → Says Progress → Back (List ℕ)
+startHanded w (refuses l) = replied (said freshReply (refuses l)) w
+startHanded w (gives p) = replied (said freshReply (gives p)) (wordsOf p)
+
+unfoldable pub hzStart : Order → List ℕ → List ℕ → Back (List ℕ)
+hzStart o w answer = worded (sixFour (length w) (length answer)) w answer (startHanded w (startCall o .says))
+
+-- ---- Step: the record's words, beside the table and the solution
+
+pub record Recorded : Type 0 where
+  pub words : List ℕ
+  pub held : Held
+
+abbrev pub recorded : List ℕ → Held → Recorded
+recorded w h = record { words = w; held = h }
+
+unfoldable pub stepHanded : List ℕ → Outcome Stride Lent → Back Recorded
+stepHanded w o =
+    let r = said strideReply (o .says) in
+    replied r (recorded (kept (r .code) w (o .left .progress)) (o .left .held))
+
+unfoldable pub hzStep : List ℕ → Held → List ℕ → List ℕ → List ℕ → Back Recorded
+hzStep w h mask nonzero answer =
+    worded (sixFour (length w) (length answer)) (recorded w h) answer (stepHanded w (stepCall (progressOf w) h mask nonzero))
+
+-- ---- Solve, Deal, Gather, and the counts
+
+unfoldable pub hzSolve : Order → Held → List ℕ → List ℕ → List ℕ → Back Held
+hzSolve o h mask nonzero answer = worded (four (length answer)) h answer (handed endingReply (solveCall o h mask nonzero))
+
+unfoldable pub hzDeal : Order → List ℕ → List ℕ → List ℕ → List ℕ → Back (List ℕ)
+hzDeal o values mask table answer = worded (four (length answer)) table answer (handed fullReply (dealCall o values mask table))
+
+unfoldable pub hzGather : Order → List ℕ → List ℕ → List ℕ → Back (List ℕ)
+hzGather o table values answer = worded (four (length answer)) values answer (handed fullReply (gatherCall o table values))
+
+unfoldable pub hzCounts : Order → List ℕ → Back Nothing
+hzCounts o answer = worded (four (length answer)) tt answer (handed countsReply (countsCall o))

@@ -1,0 +1,3 @@
+pub mod Words
+pub mod Replies
+pub mod Faces

@@ -1,0 +1,51 @@
+-- What a call tells, as a code and four words: the codes of include/hostozaro.h.
+-- Assumes nothing.
+use mathlib.Core.List.{List, [], _∷_}
+use Prim.Native.Nat.{ℕ}
+use lib.ListN.{getD}
+use Rattle.course.specs.declared.Counts.{Counts}
+use Rattle.course.specs.declared.Progress.{Progress}
+use Rattle.walk.specs.declared.Ending.{Ending}
+use Rattle.walk.specs.declared.Ending.the-variants.{Solved, Stopped}
+use Rattle.solver.specs.Told.{Line}
+use Rattle.solver.specs.Calls.{Says, refuses, gives, Full, filled, Stride, moved, opening, stopped, done}
+use Rattle.host.specs.declared.replies.Reply.{Reply}
+
+abbrev pub reply : ℕ → ℕ → ℕ → ℕ → ℕ → Reply
+reply code a b c d = record { code = code; a = a; b = b; c = c; d = d }
+
+-- the words of an answer
+abbrev pub fourOf : Reply → List ℕ
+fourOf r = r .a ∷ r .b ∷ r .c ∷ r .d ∷ []
+
+-- 0: the refusal's number, and its detail
+unfoldable pub refusalReply : Line → Reply
+refusalReply l = reply 0 (l .number) (getD (l .detail) 0 0) 0 0
+
+-- Step
+unfoldable pub strideReply : Stride → Reply
+strideReply moved = reply 1 0 0 0 0
+strideReply (opening j x) = reply 2 j x 0 0
+strideReply (stopped j) = reply 3 j 0 0 0
+strideReply (done x) = reply 4 x 0 0 0
+
+-- Solve
+unfoldable pub endingReply : Ending → Reply
+endingReply (Stopped j c) = reply 3 j (c .steps) (c .mask) (c .nonzero)
+endingReply (Solved c) = reply 5 (c .steps) (c .mask) (c .nonzero) 0
+
+-- Deal and Gather
+unfoldable pub fullReply : Full → Reply
+fullReply filled = reply 6 0 0 0 0
+
+-- Start
+unfoldable pub freshReply : Progress → Reply
+freshReply p = reply 7 0 0 0 0
+
+-- the counts
+unfoldable pub countsReply : Counts → Reply
+countsReply c = reply 8 (c .steps) (c .mask) (c .nonzero) 0
+
+unfoldable pub said : {A : Type 0} → (A → Reply) → Says A → Reply
+said f (refuses l) = refusalReply l
+said f (gives a) = f a

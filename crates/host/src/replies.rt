@@ -1,0 +1,122 @@
+// What a call tells: a code and four words.
+ghost use mathlib.Core.Path.{_≡_};
+ghost use lib.ListN.{length};
+ghost use Rattle.solver.specs.Refusals.{paper};
+ghost use Rattle.solver.specs.Calls.{countSays, fillSays, solveSays, stepSays};
+ghost use Rattle.host.specs.Replies.{reply, refusalReply, said, countsReply, fullReply, endingReply, strideReply, fourOf};
+use solver::Counting;
+use solver::Filling;
+use solver::Refusal;
+use solver::Solving;
+use solver::Stepping;
+
+pub struct Reply {
+    pub code: u64,
+    pub a: u64,
+    pub b: u64,
+    pub c: u64,
+    pub d: u64,
+}
+
+// A code and two words; the others are 0.
+pub fn short(code: u64, a: u64, b: u64) -> Reply
+    ensures { λ r. ⌜ r ≡ reply code a b 0 0 ⌝ }
+{
+    Reply {
+        code,
+        a,
+        b,
+        c: 0,
+        d: 0,
+    }
+}
+
+// The paper's number of a refusal, and its detail.
+pub fn refusal(x: Refusal) -> Reply
+    ensures { λ r. ⌜ r ≡ refusalReply (paper x) ⌝ }
+{
+    match x {
+        Refusal::Field(q) => short(0, 1, q),
+        Refusal::Shares(n) => short(0, 2, n),
+        Refusal::Size(m) => short(0, 3, m),
+        Refusal::Input(wanted) => short(0, 4, wanted as u64),
+        Refusal::Target(wanted) => short(0, 5, wanted as u64),
+        Refusal::Entry(place) => short(0, 6, place as u64),
+        Refusal::MaskTape(wanted) => short(0, 7, wanted as u64),
+        Refusal::NonzeroTape(wanted) => short(0, 8, wanted as u64),
+        Refusal::ZeroDraw(place) => short(0, 9, place as u64),
+        Refusal::OffList => short(0, 10, 0),
+        Refusal::Ended => short(0, 11, 0),
+        Refusal::ZeroPivot(j) => short(0, 12, j),
+    }
+}
+
+pub fn of_counts(x: Counting) -> Reply
+    ensures { λ r. ⌜ r ≡ said countsReply (countSays x) ⌝ }
+{
+    match x {
+        Counting::Refused(y) => refusal(y),
+        Counting::Counted(c) => Reply {
+            code: 8,
+            a: c.steps as u64,
+            b: c.mask as u64,
+            c: c.nonzero as u64,
+            d: 0,
+        },
+    }
+}
+
+pub fn of_fill(x: Filling) -> Reply
+    ensures { λ r. ⌜ r ≡ said fullReply (fillSays x) ⌝ }
+{
+    match x {
+        Filling::Refused(y) => refusal(y),
+        Filling::Filled => short(6, 0, 0),
+    }
+}
+
+pub fn of_solve(x: Solving) -> Reply
+    ensures { λ r. ⌜ r ≡ said endingReply (solveSays x) ⌝ }
+{
+    match x {
+        Solving::Refused(y) => refusal(y),
+        Solving::Solved(c) => Reply {
+            code: 5,
+            a: c.steps as u64,
+            b: c.mask as u64,
+            c: c.nonzero as u64,
+            d: 0,
+        },
+        Solving::Stopped(j, c) => Reply {
+            code: 3,
+            a: j,
+            b: c.steps as u64,
+            c: c.mask as u64,
+            d: c.nonzero as u64,
+        },
+    }
+}
+
+pub fn of_step(x: Stepping) -> Reply
+    ensures { λ r. ⌜ r ≡ said strideReply (stepSays x) ⌝ }
+{
+    match x {
+        Stepping::Refused(y) => refusal(y),
+        Stepping::Moved => short(1, 0, 0),
+        Stepping::Opened(j, v) => short(2, j, v as u64),
+        Stepping::Stopped(j) => short(3, j, 0),
+        Stepping::Done(v) => short(4, v as u64, 0),
+    }
+}
+
+// Writes the answer's words, and returns the code.
+pub fn say(answer: &mut [u64], x: Reply) -> u64
+    requires { ⌜ length (now answer) ≡ 4 ⌝ }
+    ensures { λ r. ⌜ (r ≡ x .code) × (now (answer .exit) ≡ fourOf x) ⌝ }
+{
+    answer[0] = x.a;
+    answer[1] = x.b;
+    answer[2] = x.c;
+    answer[3] = x.d;
+    x.code
+}

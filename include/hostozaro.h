@@ -1,0 +1,247 @@
+/* hostozaro.h: the C face of Hostozaro.
+ *
+ * Hostozaro solves m linear equations in m unknowns, A·x = b, over the field of
+ * 16 or of 256 elements, where each entry of A and b is held as 2, 3 or 4 shares
+ * whose sum (exclusive or) is the entry. It solves the whole system in one call,
+ * or one small step to a call, so that a host can do other work in between. It
+ * also deals plain values into shares and gathers shares back. It makes no random
+ * numbers: the host lends them, on two tapes. The inputs of a call determine its
+ * answer and every lent byte afterwards, refusals included.
+ *
+ *
+ * WORDS
+ *
+ * field    16 or 256. Elements are the numbers 0..15 or 0..255, one to a byte,
+ *          their bits the coefficients of a polynomial modulo x^4+x+1 (16) or
+ *          x^8+x^4+x^3+x+1 (256, the field of FIPS 197).
+ * shares   n, from 2 to 4.
+ * size     m, from 1 to 96: equations, and as many unknowns.
+ * N        n(n-1)/2, the number of pairs of shares.
+ * f        2 for field 16, 3 for field 256.
+ *
+ *
+ * TABLE
+ *
+ * T = [A | b] has m rows and m+1 columns, numbered from 1; b is column m+1.
+ * Share s (1..n) of row r, column c is byte
+ *
+ *     ((r-1)(m+1) + (c-1))·n + (s-1)
+ *
+ * of a table of m(m+1)n bytes. A solve works in the table and leaves it changed:
+ * to solve the same system again, deal it again.
+ * A list of plain values has the m(m+1) entries in the same row order, a byte each.
+ * The solution has m bytes: x_j is byte j-1. It is plain, not shared.
+ *
+ *
+ * TAPES
+ *
+ * Mask tape: fresh random bytes. Each byte modulo 16 or 256 is one draw, so for
+ * field 16 the high four bits of a byte are ignored and every byte is welcome.
+ * Nonzero tape: the same, but no draw that is needed may be 0. For field 16 that
+ * shuts out 0x00, 0x10, 0x20 .. 0xF0.
+ * Draws are taken from the front, each byte once. Never lend a byte a second
+ * time: the secrecy of the shares rests on it.
+ * hz_solve and hz_deal take tapes as long as needed or longer and read only the
+ * part that is needed. hz_step wants exactly the draws of its step.
+ * hz_counts tells how many draws a full solve needs. A deal needs m(m+1)(n-1).
+ *
+ *
+ * POINTERS
+ *
+ * Each buffer is a pointer followed by its length: bytes for uint8_t, words for
+ * uint64_t. That many must be readable there, and writable where the pointer is
+ * not const. No pointer may be NULL, not even with length 0 (lend the address of
+ * anything). Buffers lent to one call must not overlap, and arrays of uint64_t
+ * lie at a multiple of 8. C cannot check these three rules; everything else is
+ * checked, and any number may be passed for any number.
+ * The library keeps nothing between calls, and has no global state.
+ *
+ *
+ * WHAT A CALL RETURNS
+ *
+ * Each call returns one of the HZ_ codes below, and writes all four words of
+ * answer; a word not named for the code becomes 0.
+ *
+ * HZ_REFUSED: answer[0] is the number of the refusal and answer[1] its detail.
+ * Nothing lent is changed, except answer itself.
+ *
+ *     1  field neither 16 nor 256               the number
+ *     2  shares below 2 or above 4              the number
+ *     3  size below 1 or above 96               the number
+ *     4  input table or value list              length wanted
+ *        of wrong length
+ *     5  solution or target of wrong length     length wanted
+ *     6  field 16: input table or value list    first such place, from 0
+ *        has a byte of 16 or more
+ *     7  mask tape too short                    length wanted
+ *        (hz_step: not the exact length)
+ *     8  nonzero tape, likewise                 length wanted
+ *     9  a nonzero draw that is needed is 0     first such place, from 0
+ *    10  record: no such place for this size    0
+ *    11  record: already stopped or done        0
+ *    12  hz_step at Scale: the pivot is 0       j
+ *
+ * Where several apply, the first in the call's own order is given.
+ *
+ * HZ_BAD_WORDS: record has not exactly HZ_RECORD_WORDS words, or answer not
+ * exactly HZ_ANSWER_WORDS. This is looked at before everything else, and nothing
+ * at all is changed, answer included.
+ */
+#ifndef HOSTOZARO_H
+#define HOSTOZARO_H
+
+#include <stddef.h>
+#include <stdint.h>
+
+#ifdef __cplusplus
+extern "C" {
+#endif
+
+#define HZ_RECORD_WORDS 6
+#define HZ_ANSWER_WORDS 4
+
+/* What a call returns. */
+#define HZ_REFUSED    0 /* answer: number, detail */
+#define HZ_MOVED      1 /* step: done, and nothing was opened */
+#define HZ_OPENED     2 /* step: answer: j, x_j */
+#define HZ_STOPPED    3 /* step: answer: j.   solve: answer: j, steps, mask draws, nonzero draws */
+#define HZ_DONE       4 /* step: the last one. answer: x_1 */
+#define HZ_SOLVED     5 /* solve: answer: steps, mask draws, nonzero draws */
+#define HZ_FILLED     6 /* deal, gather */
+#define HZ_FRESH      7 /* start */
+#define HZ_COUNTS     8 /* counts: answer: steps, mask draws, nonzero draws */
+#define HZ_BAD_WORDS 99 /* record or answer of wrong length: nothing was written */
+
+/* The words of a record, and what its word HZ_STEP may say. */
+#define HZ_FIELD  0
+#define HZ_SHARES 1
+#define HZ_SIZE   2
+#define HZ_STEP   3
+#define HZ_J      4
+#define HZ_K      5
+
+#define HZ_MIX        0 /* j and k, 1 <= j < k <= m */
+#define HZ_CHECK      1 /* j, 1 <= j <= m; k is 0 */
+#define HZ_SCALE      2 /* likewise */
+#define HZ_CLEAR      3 /* as HZ_MIX */
+#define HZ_OPEN       4 /* as HZ_CHECK */
+#define HZ_AT_STOPPED 5 /* as HZ_CHECK: stopped at column j */
+#define HZ_AT_DONE    6 /* j and k are 0 */
+
+/* A fresh record, at the first step of a system of these sizes.
+ *
+ * HZ_FRESH: record becomes field, shares, size, and the first place: Check(1)
+ * for size 1, else Mix(1,2).
+ * Refusals, in order: 1, 2, 3. */
+uint64_t hz_start(uint64_t field, uint64_t shares, uint64_t size,
+                  uint64_t *record, size_t record_len,
+                  uint64_t *answer, size_t answer_len);
+
+/* Does the step that the record stands at, and moves the record to the next
+ * place. The steps, with L = m+2-j, and the draws that each must be lent:
+ *
+ *     step        does                                mask draws            nonzero
+ *     Mix(j,k)    adds row k to row j if T[j,j] is 0  f(n-1+N) + L·N        0
+ *     Check(j)    opens whether T[j,j] is 0           f(n-1+N) + N          0
+ *     Scale(j)    makes T[j,j] 1                      (n-1)²+N + n(n-1)L    n-1
+ *     Clear(j,k)  makes T[k,j] 0                      L·N                   0
+ *     Open(j)     opens x_j                           N                     0
+ *
+ * The list: for j = 1..m: Mix(j,k) for k = j+1..m, Check(j), Scale(j),
+ * Clear(j,k) for k = j+1..m. Then Open(j) for j = m down to 1.
+ *
+ * HZ_MOVED: after Mix, Check, Scale, Clear. The table is as after this step, the
+ *     record at the next place. The solution is unchanged.
+ * HZ_OPENED: after Open(j) with j > 1. Byte j-1 of the solution is x_j and its
+ *     other bytes are unchanged; table and record as above.
+ * HZ_DONE: the same after Open(1), for x_1; the record becomes done (j, k: 0).
+ * HZ_STOPPED: Check(j) found that column j of A is a combination of the columns
+ *     before it (or zero, for j = 1). The record becomes stopped at j (k: 0).
+ *     Table and solution are unchanged.
+ * Refusals, in order: 1, 2, 3 (the record's numbers), 4 (table m(m+1)n), 5
+ *     (solution m, whatever the step), 10, 11, 6 (the whole table), 7, 8, 9 (place
+ *     within the bytes lent), 12.
+ *     10 is any place that the list above has not: another step number, a j or k
+ *     outside its range, or not 0 where the step carries none; also stopped at a
+ *     column outside 1..m. 10 and 12 cannot come up while a record that hz_start
+ *     made and its table are touched by hz_step alone. */
+uint64_t hz_step(uint64_t *record, size_t record_len,
+                 uint8_t *table, size_t table_len,
+                 uint8_t *solution, size_t solution_len,
+                 const uint8_t *mask, size_t mask_len,
+                 const uint8_t *nonzero, size_t nonzero_len,
+                 uint64_t *answer, size_t answer_len);
+
+/* Solves the whole system: every step of the list, the draws in order.
+ *
+ * HZ_SOLVED: there is exactly one x, and the solution is it. answer says how
+ *     many steps were taken, and how many draws of each tape: all that hz_counts
+ *     announces.
+ * HZ_STOPPED: column j of A is the first that is a combination of the columns
+ *     before it (or zero, for j = 1); so there is not exactly one x, whatever b.
+ *     All m bytes of the solution become 0. The counts include Check(j).
+ * Either way the table is as after the last step taken.
+ * Refusals, in order: 1, 2, 3, 4 (table m(m+1)n), 5 (solution m), 6 (table),
+ *     7, 8 (the lengths of a full solve, even if the system will stop early), 9
+ *     (among the first m(n-1) bytes, likewise). */
+uint64_t hz_solve(uint64_t field, uint64_t shares, uint64_t size,
+                  uint8_t *table, size_t table_len,
+                  uint8_t *solution, size_t solution_len,
+                  const uint8_t *mask, size_t mask_len,
+                  const uint8_t *nonzero, size_t nonzero_len,
+                  uint64_t *answer, size_t answer_len);
+
+/* Deals m(m+1) plain values into shares: for each, shares 2..n are the next
+ * draws and share 1 is the value plus their sum.
+ *
+ * HZ_FILLED: every byte of the table is written.
+ * Refusals, in order: 1, 2, 3, 4 (values m(m+1)), 5 (table m(m+1)n), 6 (values),
+ *     7 (mask, m(m+1)(n-1)). */
+uint64_t hz_deal(uint64_t field, uint64_t shares, uint64_t size,
+                 const uint8_t *values, size_t values_len,
+                 uint8_t *table, size_t table_len,
+                 const uint8_t *mask, size_t mask_len,
+                 uint64_t *answer, size_t answer_len);
+
+/* Gathers the values of a table: each is the sum of its shares.
+ *
+ * HZ_FILLED: every byte of values is written.
+ * Refusals, in order: 1, 2, 3, 4 (table m(m+1)n), 5 (values m(m+1)), 6 (table). */
+uint64_t hz_gather(uint64_t field, uint64_t shares, uint64_t size,
+                   const uint8_t *table, size_t table_len,
+                   uint8_t *values, size_t values_len,
+                   uint64_t *answer, size_t answer_len);
+
+/* What a full solve takes.
+ *
+ * HZ_COUNTS: answer: m(m+2) steps, the mask draws summed over the list of steps,
+ *     m(n-1) nonzero draws.
+ * Refusals, in order: 1, 2, 3. */
+uint64_t hz_counts(uint64_t field, uint64_t shares, uint64_t size,
+                   uint64_t *answer, size_t answer_len);
+
+#ifdef __cplusplus
+}
+#endif
+
+#endif
+
+/* A whole example: 2x + y = 1, x + y = 0 over the field of 16, in two shares.
+ * `fill_random` is the host's own; `fill_nonzero` likewise, each byte 1..15.
+ *
+ *     uint8_t values[6] = {2, 1, 1,   1, 1, 0};
+ *     uint8_t table[12], x[2], deal_tape[6], mask[36], nonzero[2];
+ *     uint64_t answer[HZ_ANSWER_WORDS];
+ *
+ *     fill_random(deal_tape, 6);
+ *     fill_random(mask, 36);              // hz_counts(16, 2, 2, ..): 8 36 2
+ *     fill_nonzero(nonzero, 2);
+ *     if (hz_deal(16, 2, 2, values, 6, table, 12, deal_tape, 6, answer, 4) != HZ_FILLED)
+ *         refused(answer[0], answer[1]);
+ *     switch (hz_solve(16, 2, 2, table, 12, x, 2, mask, 36, nonzero, 2, answer, 4)) {
+ *     case HZ_SOLVED:  use(x[0], x[1]); break;                 // 14 and 14
+ *     case HZ_STOPPED: no_single_solution(answer[0]); break;   // the column
+ *     default:         refused(answer[0], answer[1]);
+ *     }
+ *
+ * host_example/solve.c is a program of this kind, and drives single steps too. */

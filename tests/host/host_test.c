@@ -1,0 +1,936 @@
+/* Compares every call of the library with the model, on many inputs.
+ *
+ *     host_test [SEED [CASE]]
+ *
+ * SEED is 1 where none is given. With CASE only that case is run: each case's
+ * numbers come from the seed and the case's own number alone. The first
+ * difference is printed as one line and ends the run. */
+#include "hostozaro.h"
+#include "model.h"
+
+#include <inttypes.h>
+#include <signal.h>
+#include <stdbool.h>
+#include <stdio.h>
+#include <stdlib.h>
+#include <string.h>
+
+#define RANDOM_CASES 16000
+#define MAX_TABLE (96 * 97 * 4)
+#define MAX_MASK 3778608 /* F256, n = 4, m = 96 */
+#define MAX_NONZERO (96 * 3)
+#define SPARE 4096 /* how much longer than right one fault makes a buffer */
+#define ROOM (4 * SPARE)
+#define GUARD 32
+
+/* ---- Random numbers ---- */
+
+static uint64_t seed = 1, case_number, state;
+
+static uint64_t any(void)
+{
+    state += 0x9e3779b97f4a7c15u; /* splitmix64 */
+    uint64_t z = state;
+    z = (z ^ z >> 30) * 0xbf58476d1ce4e5b9u;
+    z = (z ^ z >> 27) * 0x94d049bb133111ebu;
+    return z ^ z >> 31;
+}
+
+static uint64_t below(uint64_t n)
+{
+    return any() % n;
+}
+
+static bool one_in(uint64_t n)
+{
+    return below(n) == 0;
+}
+
+static void fill(uint8_t *bytes, size_t len)
+{
+    for (size_t i = 0; i < len; i += 8) {
+        uint64_t eight = any();
+        memcpy(bytes + i, &eight, len - i < 8 ? len - i : 8);
+    }
+}
+
+/* ---- Lent buffers ----
+ *
+ * Each stands three times: what is lent, the library's copy and the model's. The
+ * bytes around it are compared too. An accepted call's results become what is
+ * lent next, so a run of steps goes on by itself. */
+
+typedef struct {
+    const char *name;
+    size_t capacity, width; /* in elements; bytes to an element */
+    size_t len;             /* in elements */
+    uint8_t *lent, *library, *model;
+} buffer;
+
+static buffer table = {.name = "table", .capacity = MAX_TABLE + ROOM, .width = 1};
+static buffer solution = {.name = "solution", .capacity = 96 + ROOM, .width = 1};
+static buffer values = {.name = "values", .capacity = MAX_TABLE + ROOM, .width = 1};
+static buffer mask = {.name = "mask", .capacity = MAX_MASK + ROOM, .width = 1};
+static buffer nonzero = {.name = "nonzero", .capacity = MAX_NONZERO + ROOM, .width = 1};
+static buffer record = {.name = "record", .capacity = 16, .width = 8};
+static buffer answer = {.name = "answer", .capacity = 16, .width = 8};
+
+static uint64_t *words(const buffer *b)
+{
+    return (uint64_t *)(void *)b->lent;
+}
+
+static void make_buffer(buffer *b)
+{
+    uint8_t **copies[] = {&b->lent, &b->library, &b->model};
+    size_t odd = b->width == 1 ? 3 : 0; /* bytes may lie anywhere */
+    for (int i = 0; i < 3; i++) {
+        size_t room = b->capacity * b->width + 2 * GUARD + odd;
+        uint8_t *block = malloc(room);
+        if (block == NULL)
+            exit(2);
+        *copies[i] = block + GUARD + odd;
+    }
+}
+
+static size_t bytes_of(const buffer *b)
+{
+    return b->len * b->width;
+}
+
+/* What is lent, into one side's copy, between guards. */
+static void lend(const buffer *b, uint8_t *to)
+{
+    memset(to - GUARD, 0xa5, GUARD);
+    memcpy(to, b->lent, bytes_of(b));
+    memset(to + bytes_of(b), 0x5a, GUARD);
+}
+
+/* Changes the length; new bytes are random. */
+static void stretch(buffer *b, size_t len)
+{
+    if (len > b->len)
+        fill(b->lent + bytes_of(b), (len - b->len) * b->width);
+    b->len = len;
+}
+
+/* ---- Calls ---- */
+
+static uint64_t field, shares, size; /* what the next call is given */
+static uint64_t calls, calls_in_case;
+
+enum { START, STEP, SOLVE, DEAL, GATHER, COUNTS, KINDS };
+
+static const struct {
+    const char *name;
+    buffer *lent[7];    /* in the order of the arguments, NULL after the last */
+    const buffer *in[3]; /* those that are const */
+} kinds[KINDS] = {
+    [START] = {"hz_start", {&record, &answer}, {NULL}},
+    [STEP] = {"hz_step", {&record, &table, &solution, &mask, &nonzero, &answer}, {&mask, &nonzero}},
+    [SOLVE] = {"hz_solve", {&table, &solution, &mask, &nonzero, &answer}, {&mask, &nonzero}},
+    [DEAL] = {"hz_deal", {&values, &table, &mask, &answer}, {&values, &mask}},
+    [GATHER] = {"hz_gather", {&table, &values, &answer}, {&table}},
+    [COUNTS] = {"hz_counts", {&answer}, {NULL}},
+};
+
+static int last_kind; /* of the last call */
+
+/* Opens the line that tells of a difference. */
+static void difference(void)
+{
+    printf("DIFFERENCE seed %" PRIu64 " case %" PRIu64 " call %" PRIu64 " %s", seed, case_number, calls_in_case,
+           kinds[last_kind].name);
+    if (last_kind == STEP)
+        for (size_t i = 0; i < record.len; i++)
+            printf("%s%" PRIu64, i == 0 ? " record " : ",", words(&record)[i]);
+    else
+        printf(" field %" PRIu64 " shares %" PRIu64 " size %" PRIu64, field, shares, size);
+    for (buffer *const *b = kinds[last_kind].lent; *b != NULL; b++)
+        printf(" %s[%zu]", (*b)->name, (*b)->len);
+    printf(": ");
+}
+
+static void end_failed(void)
+{
+    printf(" (repeat: tests/host/run %" PRIu64 " %" PRIu64 ")\n", seed, case_number);
+    printf("%" PRIu64 " passed, 1 failed\n", calls - 1);
+    exit(1);
+}
+
+/* A crash is told in the same way. */
+static void crashed(int signal_number)
+{
+    difference();
+    printf("signal %d", signal_number);
+    end_failed();
+}
+
+/* A fact that this file knows of itself about the last call. */
+static void demand(bool holds, const char *what)
+{
+    if (holds)
+        return;
+    difference();
+    printf("%s", what);
+    end_failed();
+}
+
+/* The library's copy is what is wanted, and so are the guards around it, which
+ * `wanted` has only in the model's copy. */
+static void same_bytes(const buffer *b, const uint8_t *wanted, const char *whose)
+{
+    size_t guard = wanted == b->model ? GUARD : 0;
+    if (memcmp(b->library - guard, wanted - guard, bytes_of(b) + 2 * guard) == 0)
+        return;
+    int64_t at = -(int64_t)guard;
+    while (b->library[at] == wanted[at])
+        at++;
+    difference();
+    printf("%s byte %" PRId64 " is 0x%02x, %s 0x%02x", b->name, at, b->library[at], whose, wanted[at]);
+    end_failed();
+}
+
+#define BYTES(copy, b) (b).copy, (b).len
+#define WORDS(copy, b) (uint64_t *)(void *)(b).copy, (b).len
+
+/* One side's call; `side` is hz or model, `copy` the buffers' member for it. */
+#define CALL(side, copy)                                                                                              \
+    static uint64_t side##_call(int kind)                                                                             \
+    {                                                                                                                 \
+        switch (kind) {                                                                                               \
+        case START:                                                                                                   \
+            return side##_start(field, shares, size, WORDS(copy, record), WORDS(copy, answer));                      \
+        case STEP:                                                                                                    \
+            return side##_step(WORDS(copy, record), BYTES(copy, table), BYTES(copy, solution), BYTES(copy, mask),    \
+                               BYTES(copy, nonzero), WORDS(copy, answer));                                            \
+        case SOLVE:                                                                                                   \
+            return side##_solve(field, shares, size, BYTES(copy, table), BYTES(copy, solution), BYTES(copy, mask),   \
+                                BYTES(copy, nonzero), WORDS(copy, answer));                                           \
+        case DEAL:                                                                                                    \
+            return side##_deal(field, shares, size, BYTES(copy, values), BYTES(copy, table), BYTES(copy, mask),      \
+                               WORDS(copy, answer));                                                                  \
+        case GATHER:                                                                                                  \
+            return side##_gather(field, shares, size, BYTES(copy, table), BYTES(copy, values), WORDS(copy, answer)); \
+        default:                                                                                                      \
+            return side##_counts(field, shares, size, WORDS(copy, answer));                                          \
+        }                                                                                                             \
+    }
+
+CALL(hz, library)
+CALL(model, model)
+
+/* Calls both sides and compares the answer and every lent byte. */
+static uint64_t call(int kind)
+{
+    buffer *const *lent = kinds[kind].lent;
+    last_kind = kind;
+    calls++;
+    calls_in_case++;
+    fill(answer.lent, bytes_of(&answer));
+    for (int i = 0; lent[i] != NULL; i++) {
+        lend(lent[i], lent[i]->library);
+        lend(lent[i], lent[i]->model);
+    }
+    uint64_t wanted = model_call(kind), code = hz_call(kind);
+    if (code != wanted) {
+        difference();
+        printf("returned %" PRIu64 ", model %" PRIu64, code, wanted);
+        end_failed();
+    }
+    for (int i = 0; lent[i] != NULL; i++)
+        same_bytes(lent[i], lent[i]->model, "model");
+    for (int i = 0; kinds[kind].in[i] != NULL; i++)
+        same_bytes(kinds[kind].in[i], kinds[kind].in[i]->lent, "before");
+    if (code == HZ_REFUSED || code == HZ_BAD_WORDS)
+        for (int i = 0; lent[i] != NULL; i++)
+            if (lent[i] != &answer || code == HZ_BAD_WORDS)
+                same_bytes(lent[i], lent[i]->lent, "before");
+    for (int i = 0; lent[i] != NULL; i++)
+        memcpy(lent[i]->lent, lent[i]->model, bytes_of(lent[i]));
+    return code;
+}
+
+/* ---- Systems ---- */
+
+static uint8_t element(void)
+{
+    return (uint8_t)below(field);
+}
+
+static uint8_t nonzero_element(void)
+{
+    return (uint8_t)(1 + below(field - 1));
+}
+
+/* Plain value at row r, column c, both from 0; column m is b. */
+static uint8_t *value(uint64_t r, uint64_t c)
+{
+    return values.lent + r * (size + 1) + c;
+}
+
+/* Column c becomes a combination of the columns before it. */
+static void make_dependent(uint64_t c)
+{
+    for (uint64_t r = 0; r < size; r++)
+        *value(r, c) = 0;
+    for (uint64_t d = 0; d < c; d++) {
+        uint8_t factor = element();
+        for (uint64_t r = 0; r < size; r++)
+            *value(r, c) ^= model_times(field, factor, *value(r, d));
+    }
+}
+
+#define LAST_COLUMN 3 /* kinds of systems that large ones ask for by name */
+#define FITTING_B 4
+#define RANDOM 11
+#define SYSTEMS 12
+
+/* Makes up the values of a system, of one of several kinds. */
+static void make_values(uint64_t kind)
+{
+    values.len = size * (size + 1);
+    for (uint64_t i = 0; i < values.len; i++)
+        values.lent[i] = element();
+    switch (kind) {
+    case 0: /* mostly zeros: zero pivots, and many ways to be singular */
+        for (uint64_t i = 0; i < values.len; i++)
+            if (!one_in(4))
+                values.lent[i] = 0;
+        break;
+    case 1: /* zero first column */
+        make_dependent(0);
+        break;
+    case 2: /* some dependent column */
+        make_dependent(below(size));
+        break;
+    case LAST_COLUMN:
+        make_dependent(size - 1);
+        break;
+    case FITTING_B: /* though a column is dependent */
+        make_dependent(below(size));
+        make_dependent(size);
+        break;
+    case 5: { /* two equations that say the same */
+        uint64_t to = below(size), from = below(size);
+        memmove(value(to, 0), value(from, 0), size + 1);
+        break;
+    }
+    case 6: /* one entry to each row, in turned order: every pivot but luck is 0 */
+        for (uint64_t r = 0, turn = below(size); r < size; r++)
+            for (uint64_t c = 0; c < size; c++)
+                *value(r, c) = c == (r + turn) % size ? nonzero_element() : 0;
+        break;
+    case 7: /* triangular, the diagonal perhaps with zeros */
+        for (uint64_t r = 0; r < size; r++)
+            memset(value(r, 0), 0, r);
+        break;
+    case 8: /* anti-triangular: pivots come from the last row */
+        for (uint64_t r = 0; r < size; r++)
+            for (uint64_t c = 0; c < size; c++)
+                if (r + c + 1 < size)
+                    *value(r, c) = 0;
+                else if (r + c + 1 == size)
+                    *value(r, c) = nonzero_element();
+        break;
+    case 9:
+        if (one_in(4))
+            memset(values.lent, 0, values.len);
+        break;
+    default: /* random: mostly regular */
+        break;
+    }
+}
+
+/* A system of any kind. */
+static void any_values(void)
+{
+    uint64_t kind = below(SYSTEMS);
+    make_values(kind);
+}
+
+/* Any sharing of the values. */
+static void make_table(void)
+{
+    table.len = values.len * shares;
+    for (uint64_t e = 0; e < values.len; e++) {
+        uint8_t *entry = table.lent + e * shares;
+        entry[0] = values.lent[e];
+        for (uint64_t s = 1; s < shares; s++) {
+            entry[s] = element();
+            entry[0] ^= entry[s];
+        }
+    }
+}
+
+/* Solves the values without shares, by rows swapped and cleared. Returns the
+ * first dependent column, or 0 with the solution in x. Spoils the values. */
+static uint64_t plain_solve(uint8_t *x)
+{
+    for (uint64_t j = 0; j < size; j++) {
+        uint64_t p = j;
+        while (p < size && *value(p, j) == 0)
+            p++;
+        if (p == size)
+            return j + 1;
+        for (uint64_t c = 0; c <= size && p != j; c++) {
+            uint8_t kept = *value(p, c);
+            *value(p, c) = *value(j, c);
+            *value(j, c) = kept;
+        }
+        uint8_t inverse = 1;
+        while (model_times(field, inverse, *value(j, j)) != 1)
+            inverse++;
+        for (uint64_t r = 0; r < size; r++) {
+            uint8_t factor = model_times(field, inverse, *value(r, j));
+            for (uint64_t c = j; c <= size && r != j && factor != 0; c++)
+                *value(r, c) ^= model_times(field, factor, *value(j, c));
+        }
+        for (uint64_t c = j; c <= size; c++)
+            *value(j, c) = model_times(field, inverse, *value(j, c));
+    }
+    for (uint64_t j = 0; j < size; j++)
+        x[j] = *value(j, size);
+    return 0;
+}
+
+/* ---- Tapes ---- */
+
+static void make_mask(size_t len)
+{
+    mask.len = len;
+    fill(mask.lent, len);
+    if (one_in(16))
+        memset(mask.lent, one_in(2) ? 0 : 0xff, len);
+}
+
+static void make_nonzero(size_t len)
+{
+    nonzero.len = len;
+    for (size_t i = 0; i < len; i++) {
+        nonzero.lent[i] = nonzero_element();
+        if (field == 16) /* the high bits of a draw say nothing */
+            nonzero.lent[i] |= (uint8_t)(below(16) << 4);
+    }
+}
+
+/* A byte that is a zero draw. */
+static uint8_t zero_draw(void)
+{
+    static const uint8_t zeros[] = {0x00, 0x10, 0x20, 0x80, 0xf0};
+    return field == 16 ? zeros[below(5)] : 0;
+}
+
+/* Puts a zero draw somewhere on the nonzero tape. The last place is taken more
+ * often than others. */
+static void plant_zero_draw(void)
+{
+    if (nonzero.len == 0)
+        return;
+    size_t at = one_in(3) ? nonzero.len - 1 : below(nonzero.len);
+    nonzero.lent[at] = zero_draw();
+}
+
+static uint64_t full_mask(void)
+{
+    uint64_t counts[HZ_ANSWER_WORDS];
+    model_counts(field, shares, size, counts, HZ_ANSWER_WORDS);
+    return counts[1];
+}
+
+static uint64_t full_nonzero(void)
+{
+    return size * (shares - 1);
+}
+
+/* ---- Choices ---- */
+
+static void choose_sizes(uint64_t max_size)
+{
+    field = one_in(2) ? 16 : 256;
+    shares = 2 + below(3);
+    size = 1 + below(max_size);
+}
+
+static uint64_t small_size(void)
+{
+    return one_in(40) ? 24 : one_in(4) ? 10 : 5;
+}
+
+/* A number that is often near a bound of the paper, or of a machine word. */
+static uint64_t absurd(void)
+{
+    static const uint64_t numbers[] = {
+        0, 1, 2, 3, 4, 5, 7, 15, 16, 17, 95, 96, 97, 255, 256, 257, 65552, 65538, 4294967296u + 2, 4294967296u + 16,
+        4294967296u + 256, (uint64_t)1 << 63, UINT64_MAX - 1, UINT64_MAX,
+    };
+    return one_in(8) ? any() : numbers[below(sizeof numbers / sizeof numbers[0])];
+}
+
+static void fresh_words(void)
+{
+    fill(record.lent, record.capacity * record.width);
+    record.len = HZ_RECORD_WORDS;
+    answer.len = HZ_ANSWER_WORDS;
+}
+
+static void set_record(uint64_t step, uint64_t j, uint64_t k)
+{
+    uint64_t place[] = {field, shares, size, step, j, k};
+    memcpy(record.lent, place, sizeof place);
+}
+
+/* A length near the right one, or far from it. */
+static size_t wrong_length(size_t right)
+{
+    switch (below(5)) {
+    case 0:
+        return right + 1;
+    case 1:
+        return right == 0 ? 1 : right - 1;
+    case 2:
+        return 0;
+    case 3:
+        return below(right + 8);
+    default:
+        return right + below(SPARE);
+    }
+}
+
+/* Any byte in any place; the first and the last place, and 16 itself, are taken
+ * more often than others. */
+static void damage(buffer *b)
+{
+    if (b->len == 0)
+        return;
+    size_t at = one_in(4) ? 0 : one_in(3) ? b->len - 1 : below(b->len);
+    b->lent[at] = one_in(2) ? 16 : (uint8_t)any();
+}
+
+/* Damages some of what will be lent. */
+static void spoil(void)
+{
+    size_t which;
+    switch (below(14)) {
+    case 0:
+        stretch(&table, wrong_length(table.len));
+        break;
+    case 1:
+        stretch(&solution, wrong_length(solution.len));
+        break;
+    case 2:
+        stretch(&values, wrong_length(values.len));
+        break;
+    case 3:
+    case 4:
+        stretch(&mask, wrong_length(mask.len));
+        break;
+    case 5:
+        stretch(&nonzero, wrong_length(nonzero.len));
+        break;
+    case 6:
+    case 7:
+        damage(&table);
+        break;
+    case 8:
+        damage(&values);
+        break;
+    case 9:
+    case 10:
+        plant_zero_draw();
+        break;
+    case 11:
+        which = below(HZ_RECORD_WORDS);
+        words(&record)[which] = absurd();
+        break;
+    case 12:
+        record.len = one_in(2) ? record.len : below(9);
+        answer.len = one_in(2) ? answer.len : below(9);
+        break;
+    default:
+        switch (below(3)) {
+        case 0:
+            field = absurd();
+            break;
+        case 1:
+            shares = absurd();
+            break;
+        default:
+            size = absurd();
+        }
+    }
+}
+
+/* ---- Cases ---- */
+
+static uint8_t first_table[MAX_TABLE], stepped_table[MAX_TABLE], dealt_values[MAX_TABLE];
+static uint8_t whole_mask[MAX_MASK], whole_nonzero[MAX_NONZERO];
+
+/* Any numbers and lengths to every call. */
+static void case_numbers(void)
+{
+    field = one_in(2) ? (one_in(2) ? 16 : 256) : absurd();
+    shares = one_in(2) ? 2 + below(3) : absurd();
+    size = one_in(2) ? 1 + below(2) : absurd();
+    buffer *all[] = {&table, &solution, &values, &mask, &nonzero};
+    for (int i = 0; i < 5; i++) {
+        all[i]->len = below(60);
+        fill(all[i]->lent, all[i]->len);
+    }
+    fresh_words();
+    uint64_t step = below(9), j = below(4), k = below(4);
+    set_record(step, j, k);
+    if (one_in(4))
+        spoil();
+    for (int kind = 0; kind < KINDS; kind++)
+        call(kind);
+}
+
+/* Right inputs for every call, then some of them damaged: the order of refusals. */
+static void case_spoilt(void)
+{
+    choose_sizes(small_size());
+    for (int kind = 0; kind < KINDS; kind++) {
+        any_values();
+        make_table();
+        solution.len = size;
+        fill(solution.lent, size);
+        make_mask(kind == DEAL ? values.len * (shares - 1) : full_mask());
+        make_nonzero(full_nonzero());
+        fresh_words();
+        uint64_t step = below(7), j = 1 + below(size), k = 1 + below(size);
+        bool pair = step == HZ_MIX || step == HZ_CLEAR;
+        set_record(step, step == HZ_AT_DONE ? 0 : j, pair ? k : 0);
+        if (kind == STEP && (!pair || j < k) && step <= HZ_OPEN) {
+            mask.len = model_mask_draws(field, shares, size, step, j);
+            nonzero.len = model_nonzero_draws(shares, step);
+        }
+        uint64_t right[] = {field, shares, size};
+        for (uint64_t faults = below(4); faults > 0; faults--)
+            spoil();
+        call(kind);
+        field = right[0];
+        shares = right[1];
+        size = right[2];
+    }
+}
+
+/* A whole solve; where it is accepted, its answer against the plain one. */
+static void solve_and_check(void)
+{
+    uint8_t x[96];
+    fresh_words();
+    uint64_t code = call(SOLVE);
+    if (code != HZ_SOLVED && code != HZ_STOPPED)
+        return;
+    uint64_t column = plain_solve(x);
+    if (column != 0) {
+        demand(code == HZ_STOPPED && words(&answer)[0] == column, "not stopped at the first dependent column");
+        return;
+    }
+    demand(code == HZ_SOLVED, "stopped, though the columns are independent");
+    demand(memcmp(solution.lent, x, size) == 0, "the solution does not solve the system");
+}
+
+static void case_solve(void)
+{
+    any_values();
+    make_table();
+    solution.len = size;
+    fill(solution.lent, size);
+    make_mask(full_mask() + (one_in(2) ? 0 : below(SPARE)));
+    make_nonzero(full_nonzero() + (one_in(2) ? 0 : below(SPARE)));
+    for (size_t i = full_nonzero(); i < nonzero.len; i++)
+        nonzero.lent[i] = zero_draw(); /* what is not needed may be anything */
+    if (one_in(6))
+        mask.len = below(full_mask());
+    if (one_in(6))
+        plant_zero_draw();
+    solve_and_check();
+}
+
+/* A call in the midst of a run of steps that is refused, and so leaves the run as
+ * it was. Mask and nonzero hold the right draws. */
+static void refused_between(void)
+{
+    uint64_t kept[HZ_RECORD_WORDS];
+    memcpy(kept, record.lent, sizeof kept);
+    size_t table_len = table.len, mask_len = mask.len, nonzero_len = nonzero.len;
+    size_t at = below(table.len);
+    uint8_t kept_byte = table.lent[at], kept_draws[3];
+    memcpy(kept_draws, nonzero.lent, nonzero.len);
+    switch (below(8)) {
+    case 0:
+        stretch(&mask, mask_len + 1);
+        break;
+    case 1:
+        mask.len--;
+        break;
+    case 2:
+        stretch(&nonzero, nonzero_len + 1);
+        break;
+    case 3:
+        table.len--;
+        break;
+    case 4:
+        stretch(&solution, size + 1);
+        break;
+    case 5:
+        if (one_in(2))
+            words(&record)[HZ_STEP] = HZ_AT_STOPPED + below(4);
+        else
+            words(&record)[HZ_J] = absurd() | (uint64_t)1 << 40;
+        break;
+    case 6:
+        if (field == 256)
+            return;
+        table.lent[at] |= (uint8_t)(16 + 16 * below(15));
+        break;
+    default:
+        if (nonzero.len == 0)
+            return;
+        plant_zero_draw();
+    }
+    demand(call(STEP) == HZ_REFUSED, "not refused");
+    memcpy(record.lent, kept, sizeof kept);
+    table.len = table_len;
+    mask.len = mask_len;
+    nonzero.len = nonzero_len;
+    solution.len = size;
+    table.lent[at] = kept_byte;
+    memcpy(nonzero.lent, kept_draws, nonzero_len);
+}
+
+/* A run of steps from a fresh record, then the whole solve of the same table
+ * with the same tapes: table, counts and answer must be the same. */
+static void case_trace(uint64_t system, uint64_t refusals_one_in)
+{
+    make_values(system);
+    make_table();
+    memcpy(first_table, table.lent, table.len);
+    make_mask(full_mask());
+    make_nonzero(full_nonzero());
+    memcpy(whole_mask, mask.lent, mask.len);
+    memcpy(whole_nonzero, nonzero.lent, nonzero.len);
+    solution.len = size;
+    fill(solution.lent, size);
+    fresh_words();
+    demand(call(START) == HZ_FRESH, "no fresh record");
+
+    uint64_t steps = 0, mask_taken = 0, nonzero_taken = 0, code;
+    uint64_t *place = words(&record);
+    do {
+        mask.len = model_mask_draws(field, shares, size, place[HZ_STEP], place[HZ_J]);
+        nonzero.len = model_nonzero_draws(shares, place[HZ_STEP]);
+        memcpy(mask.lent, whole_mask + mask_taken, mask.len);
+        memcpy(nonzero.lent, whole_nonzero + nonzero_taken, nonzero.len);
+        if (one_in(refusals_one_in))
+            refused_between();
+        code = call(STEP);
+        demand(code != HZ_REFUSED, "refused in a run from a fresh record");
+        steps++;
+        mask_taken += mask.len;
+        nonzero_taken += nonzero.len;
+    } while (code == HZ_MOVED || code == HZ_OPENED);
+    uint64_t column = words(&answer)[0];
+    uint8_t stepped_solution[96];
+    memcpy(stepped_table, table.lent, table.len);
+    memcpy(stepped_solution, solution.lent, size);
+    demand(call(STEP) == HZ_REFUSED && words(&answer)[0] == 11, "an ended run is not refused");
+
+    memcpy(table.lent, first_table, table.len);
+    mask.len = full_mask();
+    nonzero.len = full_nonzero();
+    memcpy(mask.lent, whole_mask, mask.len);
+    memcpy(nonzero.lent, whole_nonzero, nonzero.len);
+    solve_and_check();
+    const uint64_t *told = words(&answer);
+    demand(memcmp(table.lent, stepped_table, table.len) == 0, "another table than after the steps");
+    if (code == HZ_STOPPED) {
+        demand(told[0] == column, "another stop than the steps'");
+        told++;
+    } else {
+        demand(memcmp(solution.lent, stepped_solution, size) == 0, "another solution than the steps'");
+    }
+    demand(told[0] == steps && told[1] == mask_taken && told[2] == nonzero_taken, "other counts than the steps'");
+}
+
+static void case_small_trace(void)
+{
+    choose_sizes(small_size());
+    uint64_t system = below(SYSTEMS);
+    case_trace(system, 8);
+}
+
+/* A row or column, or a number near the ends of their range, or any. */
+static uint64_t place_number(void)
+{
+    switch (below(6)) {
+    case 0:
+        return 0;
+    case 1:
+        return size + 1;
+    case 2:
+        return absurd();
+    default:
+        return 1 + below(size);
+    }
+}
+
+/* A record made up at any place of a made-up table, and a few steps on from it. */
+static void case_made_up(void)
+{
+    choose_sizes(small_size());
+    any_values();
+    if (one_in(4)) /* every pivot 0: Scale is refused, Check stops */
+        for (uint64_t r = 0; r < size; r++)
+            *value(r, r) = 0;
+    make_table();
+    solution.len = size;
+    fill(solution.lent, size);
+    fresh_words();
+    uint64_t step = one_in(8) ? absurd() : below(8), j = place_number(), k = one_in(2) ? 0 : place_number();
+    switch (below(4)) { /* places that exist, more often than by luck */
+    case 0:
+        step = one_in(2) ? HZ_MIX : HZ_CLEAR;
+        j = 1 + below(size);
+        k = j + 1 + below(size);
+        break;
+    case 1:
+        step = one_in(3) ? HZ_OPEN : one_in(3) ? HZ_CHECK : HZ_SCALE;
+        j = 1 + below(size);
+        k = 0;
+        break;
+    default:
+        break;
+    }
+    set_record(step, j, k);
+    uint64_t *place = words(&record);
+    for (int i = 0; i < 4; i++) {
+        uint64_t wanted = 0;
+        if (place[HZ_STEP] <= HZ_OPEN && place[HZ_J] <= size + 1)
+            wanted = model_mask_draws(field, shares, size, place[HZ_STEP], place[HZ_J]);
+        make_mask(wanted);
+        make_nonzero(model_nonzero_draws(shares, place[HZ_STEP]));
+        if (one_in(8))
+            plant_zero_draw();
+        if (one_in(16))
+            damage(&table);
+        if (call(STEP) == HZ_REFUSED)
+            break;
+    }
+}
+
+/* Deal, then gather: the values come back. */
+static void deal_and_gather(void)
+{
+    any_values();
+    memcpy(dealt_values, values.lent, values.len);
+    table.len = values.len * shares;
+    fill(table.lent, table.len);
+    make_mask(values.len * (shares - 1) + (one_in(2) ? 0 : below(SPARE)));
+    fresh_words();
+    demand(call(DEAL) == HZ_FILLED, "not dealt");
+    fill(values.lent, values.len);
+    demand(call(GATHER) == HZ_FILLED, "not gathered");
+    demand(memcmp(values.lent, dealt_values, values.len) == 0, "other values gathered than dealt");
+}
+
+/* Every field, number of shares and size: start, counts, deal and gather; and a
+ * solve of each size, of the small ones for every field and number of shares. */
+#define ALL_SIZES (2 * 3 * 96)
+static void case_of_sizes(uint64_t i)
+{
+    field = i % 2 == 0 ? 16 : 256;
+    shares = 2 + i / 2 % 3;
+    size = 1 + i / 6;
+    fresh_words();
+    call(START);
+    call(COUNTS);
+    deal_and_gather();
+    if (size <= 12 || size % 6 == i % 6)
+        case_solve();
+}
+
+/* Large systems, by steps and whole. */
+static const struct {
+    uint64_t field, shares, size, system;
+} large[] = {
+    {16, 2, 96, RANDOM},      {16, 3, 96, LAST_COLUMN}, {16, 4, 96, RANDOM},    {256, 2, 96, FITTING_B},
+    {256, 3, 96, RANDOM},     {256, 4, 96, RANDOM},     {16, 3, 64, RANDOM},    {16, 4, 48, FITTING_B},
+    {256, 2, 57, RANDOM},     {256, 4, 33, LAST_COLUMN},
+};
+#define CASES (ALL_SIZES + RANDOM_CASES + sizeof large / sizeof large[0])
+
+static void case_large(uint64_t i)
+{
+    field = large[i].field;
+    shares = large[i].shares;
+    size = large[i].size;
+    case_trace(large[i].system, 64);
+}
+
+/* Large systems come last, so that a difference shows first in a small one. */
+static void run_case(void)
+{
+    state = seed * 0x2545f4914f6cdd1du ^ case_number * 0xd6e8feb86659fd93u;
+    calls_in_case = 0;
+    if (case_number < ALL_SIZES) {
+        case_of_sizes(case_number);
+        return;
+    }
+    if (case_number >= ALL_SIZES + RANDOM_CASES) {
+        case_large(case_number - ALL_SIZES - RANDOM_CASES);
+        return;
+    }
+    switch (below(10)) {
+    case 0:
+    case 1:
+        case_numbers();
+        break;
+    case 2:
+    case 3:
+        case_spoilt();
+        break;
+    case 4:
+    case 5:
+        choose_sizes(one_in(20) ? 40 : small_size());
+        case_solve();
+        break;
+    case 6:
+    case 7:
+        case_small_trace();
+        break;
+    case 8:
+        case_made_up();
+        break;
+    default:
+        choose_sizes(small_size());
+        deal_and_gather();
+    }
+}
+
+int main(int argc, char **argv)
+{
+    buffer *all[] = {&table, &solution, &values, &mask, &nonzero, &record, &answer};
+    int signals[] = {SIGSEGV, SIGBUS, SIGILL, SIGFPE, SIGABRT};
+    for (size_t i = 0; i < sizeof signals / sizeof signals[0]; i++)
+        signal(signals[i], crashed);
+    if (argc > 1)
+        seed = strtoull(argv[1], NULL, 10);
+    for (size_t i = 0; i < sizeof all / sizeof all[0]; i++)
+        make_buffer(all[i]);
+    if (argc > 2) {
+        case_number = strtoull(argv[2], NULL, 10);
+        if (case_number >= CASES) {
+            printf("there are cases 0 to %d only\n", (int)CASES - 1);
+            return 2;
+        }
+        run_case();
+    } else {
+        for (case_number = 0; case_number < CASES; case_number++)
+            run_case();
+    }
+    printf("%" PRIu64 " passed, 0 failed\n", calls);
+    return 0;
+}

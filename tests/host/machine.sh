@@ -1,0 +1,26 @@
+# Sets CC, a C compiler for x86-64, and RUN, what runs an x86-64 program here
+# (nothing on x86-64). The library's archive links only into x86-64 programs, so
+# another machine takes a cross compiler and an emulator, installed if missing.
+# Programs are linked with -static: the emulator then needs no x86-64 libraries.
+
+install_packages() {
+    if [ "$(id -u)" -eq 0 ]; then as_root=''; else as_root=sudo; fi
+    $as_root apt-get update
+    $as_root env DEBIAN_FRONTEND=noninteractive apt-get install -y --no-install-recommends "$@"
+}
+
+have() {
+    command -v "$1" >/dev/null 2>&1
+}
+
+if [ "$(uname -m)" = x86_64 ]; then
+    have gcc || install_packages gcc libc6-dev
+    CC=gcc
+    RUN=''
+else
+    have x86_64-linux-gnu-gcc || install_packages gcc-x86-64-linux-gnu libc6-dev-amd64-cross
+    have qemu-x86_64 || have qemu-x86_64-static || install_packages qemu-user
+    CC=x86_64-linux-gnu-gcc
+    RUN=qemu-x86_64
+    have qemu-x86_64 || RUN=qemu-x86_64-static
+fi

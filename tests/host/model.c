@@ -1,0 +1,591 @@
+#include "model.h"
+
+#include "hostozaro.h"
+
+#include <stdbool.h>
+#include <string.h>
+
+/* ---- The two fields ---- */
+
+/* Polynomial product, by Horner's rule on the bits of b: the sum so far times x,
+ * less the modulus where it reaches x^w, plus a for a bit that is 1. The two
+ * choices are made by multiplying, so that no step waits on a branch. */
+uint8_t model_times(uint64_t field, uint8_t a, uint8_t b)
+{
+    unsigned w = field == 16 ? 4 : 8;
+    unsigned modulus = field == 16 ? 0x13 : 0x11b; /* x^4+x+1, x^8+x^4+x^3+x+1 */
+    unsigned sum = 0;
+    for (unsigned bit = w; bit-- > 0;) {
+        sum <<= 1;
+        sum ^= (sum >> w) * modulus;
+        sum ^= (b >> bit & 1u) * a;
+    }
+    return (uint8_t)sum;
+}
+
+/* The element whose product with a is 1; a is not 0. */
+static uint8_t inverse(uint64_t field, uint8_t a)
+{
+    unsigned r = 1;
+    while (model_times(field, a, (uint8_t)r) != 1)
+        r++;
+    return (uint8_t)r;
+}
+
+/* ---- A system, its tapes, and sharings ---- */
+
+/* A tape with the number of draws taken from it. */
+typedef struct {
+    const uint8_t *bytes;
+    uint64_t taken;
+} tape;
+
+typedef struct {
+    uint64_t field, n, m;
+    uint8_t *table;
+    tape mask, nonzero;
+} task;
+
+typedef struct {
+    uint8_t share[4]; /* n in use */
+} sharing;
+
+static uint8_t draw(const task *t, tape *from)
+{
+    return (uint8_t)(from->bytes[from->taken++] % t->field);
+}
+
+static uint8_t *entry_at(const task *t, uint64_t row, uint64_t column)
+{
+    return t->table + ((row - 1) * (t->m + 1) + (column - 1)) * t->n;
+}
+
+static sharing get(const task *t, uint64_t row, uint64_t column)
+{
+    sharing a = {{0}};
+    memcpy(a.share, entry_at(t, row, column), t->n);
+    return a;
+}
+
+static void put(const task *t, uint64_t row, uint64_t column, sharing a)
+{
+    memcpy(entry_at(t, row, column), a.share, t->n);
+}
+
+static sharing plus(const task *t, sharing a, sharing b)
+{
+    for (uint64_t s = 0; s < t->n; s++)
+        a.share[s] ^= b.share[s];
+    return a;
+}
+
+/* Every share times one plain factor. */
+static sharing scaled(const task *t, sharing a, uint8_t factor)
+{
+    for (uint64_t s = 0; s < t->n; s++)
+        a.share[s] = model_times(t->field, a.share[s], factor);
+    return a;
+}
+
+/* ---- Small rules on sharings (shares are numbered from 0 here) ---- */
+
+static sharing refresh(task *t, sharing a)
+{
+    for (uint64_t s = 1; s < t->n; s++) {
+        uint8_t r = draw(t, &t->mask);
+        a.share[s] ^= r;
+        a.share[0] ^= r;
+    }
+    return a;
+}
+
+static sharing product(task *t, sharing a, sharing b)
+{
+    sharing out = {{0}};
+    for (uint64_t i = 0; i < t->n; i++)
+        out.share[i] = model_times(t->field, a.share[i], b.share[i]);
+    for (uint64_t i = 0; i < t->n; i++)
+        for (uint64_t j = i + 1; j < t->n; j++) {
+            uint8_t z = draw(t, &t->mask);
+            uint8_t z2 = (uint8_t)((model_times(t->field, a.share[i], b.share[j]) ^ z)
+                                   ^ model_times(t->field, a.share[j], b.share[i]));
+            out.share[i] ^= z;
+            out.share[j] ^= z2;
+        }
+    return out;
+}
+
+/* Product, with bitwise and in place of the field's product. */
+static sharing bit_and(task *t, sharing a, sharing b)
+{
+    sharing out = {{0}};
+    for (uint64_t i = 0; i < t->n; i++)
+        out.share[i] = a.share[i] & b.share[i];
+    for (uint64_t i = 0; i < t->n; i++)
+        for (uint64_t j = i + 1; j < t->n; j++) {
+            uint8_t z = draw(t, &t->mask);
+            uint8_t z2 = (uint8_t)(((a.share[i] & b.share[j]) ^ z) ^ (a.share[j] & b.share[i]));
+            out.share[i] ^= z;
+            out.share[j] ^= z2;
+        }
+    return out;
+}
+
+static uint8_t opening(task *t, sharing a)
+{
+    for (uint64_t i = 0; i < t->n; i++)
+        for (uint64_t j = i + 1; j < t->n; j++) {
+            uint8_t r = draw(t, &t->mask);
+            a.share[i] ^= r;
+            a.share[j] ^= r;
+        }
+    uint8_t sum = 0;
+    for (uint64_t s = 0; s < t->n; s++)
+        sum ^= a.share[s];
+    return sum;
+}
+
+/* A sharing of 1 where a's value is 0, else of 0. */
+static sharing zero_flag(task *t, sharing a)
+{
+    a.share[0] ^= (uint8_t)(t->field - 1);
+    for (unsigned h = t->field == 16 ? 2 : 4; h >= 1; h /= 2) {
+        sharing folded = a;
+        for (uint64_t s = 0; s < t->n; s++)
+            folded.share[s] >>= h;
+        folded = refresh(t, folded);
+        a = bit_and(t, a, folded);
+    }
+    for (uint64_t s = 0; s < t->n; s++)
+        a.share[s] &= 1;
+    return a;
+}
+
+/* The n factors whose product is the inverse of a's value; false where that is 0. */
+static bool inversion(task *t, sharing a, uint8_t factors[4])
+{
+    for (uint64_t s = 0; s + 1 < t->n; s++) {
+        factors[s] = draw(t, &t->nonzero);
+        a = refresh(t, scaled(t, a, factors[s]));
+    }
+    uint8_t u = opening(t, a);
+    if (u == 0)
+        return false;
+    factors[t->n - 1] = inverse(t->field, u);
+    return true;
+}
+
+/* ---- The five steps ---- */
+
+static void mix(task *t, uint64_t j, uint64_t k)
+{
+    sharing flag = zero_flag(t, get(t, j, j));
+    for (uint64_t c = j; c <= t->m + 1; c++)
+        put(t, j, c, plus(t, get(t, j, c), product(t, flag, get(t, k, c))));
+}
+
+static bool check_stops(task *t, uint64_t j)
+{
+    return opening(t, zero_flag(t, get(t, j, j))) == 1;
+}
+
+/* False, and nothing changed, where the pivot is 0. */
+static bool scale(task *t, uint64_t j)
+{
+    uint8_t factors[4];
+    if (!inversion(t, get(t, j, j), factors))
+        return false;
+    for (uint64_t i = 0; i < t->n; i++)
+        for (uint64_t c = j; c <= t->m + 1; c++)
+            put(t, j, c, refresh(t, scaled(t, get(t, j, c), factors[i])));
+    return true;
+}
+
+static void clear(task *t, uint64_t j, uint64_t k)
+{
+    sharing copy = get(t, k, j); /* column j is the first to change it */
+    for (uint64_t c = j; c <= t->m + 1; c++)
+        put(t, k, c, plus(t, get(t, k, c), product(t, copy, get(t, j, c))));
+}
+
+static uint8_t open_unknown(task *t, uint64_t j)
+{
+    uint8_t x = opening(t, get(t, j, t->m + 1));
+    for (uint64_t k = 1; k < j; k++)
+        put(t, k, t->m + 1, plus(t, get(t, k, t->m + 1), scaled(t, get(t, k, j), x)));
+    return x;
+}
+
+/* ---- Counts ---- */
+
+uint64_t model_mask_draws(uint64_t field, uint64_t n, uint64_t m, uint64_t step, uint64_t j)
+{
+    uint64_t f = field == 16 ? 2 : 3, pairs = n * (n - 1) / 2, columns = m + 2 - j;
+    switch (step) {
+    case HZ_MIX:
+        return f * (n - 1 + pairs) + columns * pairs;
+    case HZ_CHECK:
+        return f * (n - 1 + pairs) + pairs;
+    case HZ_SCALE:
+        return (n - 1) * (n - 1) + pairs + n * (n - 1) * columns;
+    case HZ_CLEAR:
+        return columns * pairs;
+    default:
+        return pairs; /* Open */
+    }
+}
+
+uint64_t model_nonzero_draws(uint64_t n, uint64_t step)
+{
+    return step == HZ_SCALE ? n - 1 : 0;
+}
+
+/* The mask draws of a full solve. */
+static uint64_t full_mask_draws(uint64_t field, uint64_t n, uint64_t m)
+{
+    uint64_t sum = 0;
+    for (uint64_t j = 1; j <= m; j++) {
+        for (uint64_t k = j + 1; k <= m; k++)
+            sum += model_mask_draws(field, n, m, HZ_MIX, j) + model_mask_draws(field, n, m, HZ_CLEAR, j);
+        sum += model_mask_draws(field, n, m, HZ_CHECK, j) + model_mask_draws(field, n, m, HZ_SCALE, j)
+               + model_mask_draws(field, n, m, HZ_OPEN, j);
+    }
+    return sum;
+}
+
+/* ---- Answers and refusals ---- */
+
+static uint64_t say(uint64_t code, uint64_t *answer, uint64_t a, uint64_t b, uint64_t c, uint64_t d)
+{
+    answer[0] = a;
+    answer[1] = b;
+    answer[2] = c;
+    answer[3] = d;
+    return code;
+}
+
+static uint64_t refuse(uint64_t *answer, uint64_t number, uint64_t detail)
+{
+    return say(HZ_REFUSED, answer, number, detail, 0, 0);
+}
+
+/* 1, 2, 3, or 0 for none; *detail is the number complained of. */
+static uint64_t bad_number(uint64_t field, uint64_t n, uint64_t m, uint64_t *detail)
+{
+    if (field != 16 && field != 256) {
+        *detail = field;
+        return 1;
+    }
+    if (n < 2 || n > 4) {
+        *detail = n;
+        return 2;
+    }
+    if (m < 1 || m > 96) {
+        *detail = m;
+        return 3;
+    }
+    return 0;
+}
+
+/* The first byte of 16 or more where the field is F16, else len. */
+static size_t first_large(uint64_t field, const uint8_t *bytes, size_t len)
+{
+    size_t at = 0;
+    while (at < len && (field == 256 || bytes[at] < 16))
+        at++;
+    return at;
+}
+
+/* The first of the first len bytes that is a zero draw, else len. */
+static size_t first_zero_draw(uint64_t field, const uint8_t *bytes, size_t len)
+{
+    size_t at = 0;
+    while (at < len && bytes[at] % field != 0)
+        at++;
+    return at;
+}
+
+/* ---- The place of a record ---- */
+
+/* Whether the place stands in the step list, or is a stop or the end. */
+static bool place_exists(uint64_t m, uint64_t step, uint64_t j, uint64_t k)
+{
+    switch (step) {
+    case HZ_MIX:
+    case HZ_CLEAR:
+        return 1 <= j && j < k && k <= m;
+    case HZ_CHECK:
+    case HZ_SCALE:
+    case HZ_OPEN:
+    case HZ_AT_STOPPED:
+        return 1 <= j && j <= m && k == 0;
+    case HZ_AT_DONE:
+        return j == 0 && k == 0;
+    default:
+        return false;
+    }
+}
+
+static void set_place(uint64_t *record, uint64_t step, uint64_t j, uint64_t k)
+{
+    record[HZ_STEP] = step;
+    record[HZ_J] = j;
+    record[HZ_K] = k;
+}
+
+/* The place at which column j's work begins, for j in 1..m. */
+static void enter_column(uint64_t *record, uint64_t j)
+{
+    if (j < record[HZ_SIZE])
+        set_place(record, HZ_MIX, j, j + 1);
+    else
+        set_place(record, HZ_CHECK, j, 0);
+}
+
+static void leave_column(uint64_t *record, uint64_t j)
+{
+    if (j < record[HZ_SIZE])
+        enter_column(record, j + 1);
+    else
+        set_place(record, HZ_OPEN, record[HZ_SIZE], 0);
+}
+
+/* Moves on to the next place of the list, or to done. */
+static void move_on(uint64_t *record)
+{
+    uint64_t m = record[HZ_SIZE], j = record[HZ_J], k = record[HZ_K];
+    switch (record[HZ_STEP]) {
+    case HZ_MIX:
+        if (k < m)
+            set_place(record, HZ_MIX, j, k + 1);
+        else
+            set_place(record, HZ_CHECK, j, 0);
+        break;
+    case HZ_CHECK:
+        set_place(record, HZ_SCALE, j, 0);
+        break;
+    case HZ_SCALE:
+        if (j < m)
+            set_place(record, HZ_CLEAR, j, j + 1);
+        else
+            leave_column(record, j);
+        break;
+    case HZ_CLEAR:
+        if (k < m)
+            set_place(record, HZ_CLEAR, j, k + 1);
+        else
+            leave_column(record, j);
+        break;
+    case HZ_OPEN:
+        if (j > 1)
+            set_place(record, HZ_OPEN, j - 1, 0);
+        else
+            set_place(record, HZ_AT_DONE, 0, 0);
+        break;
+    }
+}
+
+/* ---- The calls ---- */
+
+uint64_t model_start(uint64_t field, uint64_t n, uint64_t m,
+                     uint64_t *record, size_t record_len,
+                     uint64_t *answer, size_t answer_len)
+{
+    if (record_len != HZ_RECORD_WORDS || answer_len != HZ_ANSWER_WORDS)
+        return HZ_BAD_WORDS;
+    uint64_t detail, bad = bad_number(field, n, m, &detail);
+    if (bad)
+        return refuse(answer, bad, detail);
+    record[HZ_FIELD] = field;
+    record[HZ_SHARES] = n;
+    record[HZ_SIZE] = m;
+    enter_column(record, 1);
+    return say(HZ_FRESH, answer, 0, 0, 0, 0);
+}
+
+uint64_t model_step(uint64_t *record, size_t record_len,
+                    uint8_t *table, size_t table_len,
+                    uint8_t *solution, size_t solution_len,
+                    const uint8_t *mask, size_t mask_len,
+                    const uint8_t *nonzero, size_t nonzero_len,
+                    uint64_t *answer, size_t answer_len)
+{
+    if (record_len != HZ_RECORD_WORDS || answer_len != HZ_ANSWER_WORDS)
+        return HZ_BAD_WORDS;
+    uint64_t field = record[HZ_FIELD], n = record[HZ_SHARES], m = record[HZ_SIZE];
+    uint64_t step = record[HZ_STEP], j = record[HZ_J], k = record[HZ_K];
+    uint64_t detail, bad = bad_number(field, n, m, &detail);
+    if (bad)
+        return refuse(answer, bad, detail);
+    if (table_len != m * (m + 1) * n)
+        return refuse(answer, 4, m * (m + 1) * n);
+    if (solution_len != m)
+        return refuse(answer, 5, m);
+    if (!place_exists(m, step, j, k))
+        return refuse(answer, 10, 0);
+    if (step == HZ_AT_STOPPED || step == HZ_AT_DONE)
+        return refuse(answer, 11, 0);
+    size_t large = first_large(field, table, table_len);
+    if (large < table_len)
+        return refuse(answer, 6, large);
+    if (mask_len != model_mask_draws(field, n, m, step, j))
+        return refuse(answer, 7, model_mask_draws(field, n, m, step, j));
+    if (nonzero_len != model_nonzero_draws(n, step))
+        return refuse(answer, 8, model_nonzero_draws(n, step));
+    size_t zero = first_zero_draw(field, nonzero, nonzero_len);
+    if (zero < nonzero_len)
+        return refuse(answer, 9, zero);
+
+    task t = {field, n, m, table, {mask, 0}, {nonzero, 0}};
+    switch (step) {
+    case HZ_MIX:
+        mix(&t, j, k);
+        break;
+    case HZ_CHECK:
+        if (check_stops(&t, j)) {
+            set_place(record, HZ_AT_STOPPED, j, 0);
+            return say(HZ_STOPPED, answer, j, 0, 0, 0);
+        }
+        break;
+    case HZ_SCALE:
+        if (!scale(&t, j))
+            return refuse(answer, 12, j);
+        break;
+    case HZ_CLEAR:
+        clear(&t, j, k);
+        break;
+    case HZ_OPEN:
+        solution[j - 1] = open_unknown(&t, j);
+        move_on(record);
+        if (j == 1)
+            return say(HZ_DONE, answer, solution[0], 0, 0, 0);
+        return say(HZ_OPENED, answer, j, solution[j - 1], 0, 0);
+    }
+    move_on(record);
+    return say(HZ_MOVED, answer, 0, 0, 0, 0);
+}
+
+/* Runs the list on a task without its refusals. Returns the column at which it
+ * stopped, or 0 for solved; *steps is the number of steps taken. */
+static uint64_t run_list(task *t, uint8_t *solution, uint64_t *steps)
+{
+    *steps = 0;
+    for (uint64_t j = 1; j <= t->m; j++) {
+        for (uint64_t k = j + 1; k <= t->m; k++, ++*steps)
+            mix(t, j, k);
+        ++*steps;
+        if (check_stops(t, j))
+            return j;
+        ++*steps;
+        scale(t, j); /* its pivot was just seen not to be 0 */
+        for (uint64_t k = j + 1; k <= t->m; k++, ++*steps)
+            clear(t, j, k);
+    }
+    for (uint64_t j = t->m; j >= 1; j--, ++*steps)
+        solution[j - 1] = open_unknown(t, j);
+    return 0;
+}
+
+uint64_t model_solve(uint64_t field, uint64_t n, uint64_t m,
+                     uint8_t *table, size_t table_len,
+                     uint8_t *solution, size_t solution_len,
+                     const uint8_t *mask, size_t mask_len,
+                     const uint8_t *nonzero, size_t nonzero_len,
+                     uint64_t *answer, size_t answer_len)
+{
+    if (answer_len != HZ_ANSWER_WORDS)
+        return HZ_BAD_WORDS;
+    uint64_t detail, bad = bad_number(field, n, m, &detail);
+    if (bad)
+        return refuse(answer, bad, detail);
+    if (table_len != m * (m + 1) * n)
+        return refuse(answer, 4, m * (m + 1) * n);
+    if (solution_len != m)
+        return refuse(answer, 5, m);
+    size_t large = first_large(field, table, table_len);
+    if (large < table_len)
+        return refuse(answer, 6, large);
+    if (mask_len < full_mask_draws(field, n, m))
+        return refuse(answer, 7, full_mask_draws(field, n, m));
+    if (nonzero_len < m * (n - 1))
+        return refuse(answer, 8, m * (n - 1));
+    size_t zero = first_zero_draw(field, nonzero, m * (n - 1));
+    if (zero < m * (n - 1))
+        return refuse(answer, 9, zero);
+
+    task t = {field, n, m, table, {mask, 0}, {nonzero, 0}};
+    uint64_t steps;
+    uint64_t column = run_list(&t, solution, &steps);
+    if (column == 0)
+        return say(HZ_SOLVED, answer, steps, t.mask.taken, t.nonzero.taken, 0);
+    memset(solution, 0, m);
+    return say(HZ_STOPPED, answer, column, steps, t.mask.taken, t.nonzero.taken);
+}
+
+uint64_t model_deal(uint64_t field, uint64_t n, uint64_t m,
+                    const uint8_t *values, size_t values_len,
+                    uint8_t *table, size_t table_len,
+                    const uint8_t *mask, size_t mask_len,
+                    uint64_t *answer, size_t answer_len)
+{
+    if (answer_len != HZ_ANSWER_WORDS)
+        return HZ_BAD_WORDS;
+    uint64_t detail, bad = bad_number(field, n, m, &detail);
+    if (bad)
+        return refuse(answer, bad, detail);
+    uint64_t entries = m * (m + 1);
+    if (values_len != entries)
+        return refuse(answer, 4, entries);
+    if (table_len != entries * n)
+        return refuse(answer, 5, entries * n);
+    size_t large = first_large(field, values, values_len);
+    if (large < values_len)
+        return refuse(answer, 6, large);
+    if (mask_len < entries * (n - 1))
+        return refuse(answer, 7, entries * (n - 1));
+
+    task t = {field, n, m, table, {mask, 0}, {mask, 0}};
+    for (uint64_t row = 1; row <= m; row++)
+        for (uint64_t column = 1; column <= m + 1; column++) {
+            sharing a = {{values[(row - 1) * (m + 1) + (column - 1)]}};
+            put(&t, row, column, refresh(&t, a)); /* shares 2..n were 0: they become the draws */
+        }
+    return say(HZ_FILLED, answer, 0, 0, 0, 0);
+}
+
+uint64_t model_gather(uint64_t field, uint64_t n, uint64_t m,
+                      const uint8_t *table, size_t table_len,
+                      uint8_t *values, size_t values_len,
+                      uint64_t *answer, size_t answer_len)
+{
+    if (answer_len != HZ_ANSWER_WORDS)
+        return HZ_BAD_WORDS;
+    uint64_t detail, bad = bad_number(field, n, m, &detail);
+    if (bad)
+        return refuse(answer, bad, detail);
+    uint64_t entries = m * (m + 1);
+    if (table_len != entries * n)
+        return refuse(answer, 4, entries * n);
+    if (values_len != entries)
+        return refuse(answer, 5, entries);
+    size_t large = first_large(field, table, table_len);
+    if (large < table_len)
+        return refuse(answer, 6, large);
+
+    for (uint64_t e = 0; e < entries; e++) {
+        values[e] = 0;
+        for (uint64_t s = 0; s < n; s++)
+            values[e] ^= table[e * n + s];
+    }
+    return say(HZ_FILLED, answer, 0, 0, 0, 0);
+}
+
+uint64_t model_counts(uint64_t field, uint64_t n, uint64_t m, uint64_t *answer, size_t answer_len)
+{
+    if (answer_len != HZ_ANSWER_WORDS)
+        return HZ_BAD_WORDS;
+    uint64_t detail, bad = bad_number(field, n, m, &detail);
+    if (bad)
+        return refuse(answer, bad, detail);
+    return say(HZ_COUNTS, answer, m * (m + 2), full_mask_draws(field, n, m), m * (n - 1), 0);
+}

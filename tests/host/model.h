@@ -1,0 +1,51 @@
+/* An independent C implementation of the paper 01 for the calls of
+ * hostozaro.h: each model_X answers as hz_X must. Written from the paper alone,
+ * for clarity, and used only to compare. */
+#ifndef MODEL_H
+#define MODEL_H
+
+#include <stddef.h>
+#include <stdint.h>
+
+uint64_t model_start(uint64_t field, uint64_t shares, uint64_t size,
+                     uint64_t *record, size_t record_len,
+                     uint64_t *answer, size_t answer_len);
+
+uint64_t model_step(uint64_t *record, size_t record_len,
+                    uint8_t *table, size_t table_len,
+                    uint8_t *solution, size_t solution_len,
+                    const uint8_t *mask, size_t mask_len,
+                    const uint8_t *nonzero, size_t nonzero_len,
+                    uint64_t *answer, size_t answer_len);
+
+uint64_t model_solve(uint64_t field, uint64_t shares, uint64_t size,
+                     uint8_t *table, size_t table_len,
+                     uint8_t *solution, size_t solution_len,
+                     const uint8_t *mask, size_t mask_len,
+                     const uint8_t *nonzero, size_t nonzero_len,
+                     uint64_t *answer, size_t answer_len);
+
+uint64_t model_deal(uint64_t field, uint64_t shares, uint64_t size,
+                    const uint8_t *values, size_t values_len,
+                    uint8_t *table, size_t table_len,
+                    const uint8_t *mask, size_t mask_len,
+                    uint64_t *answer, size_t answer_len);
+
+uint64_t model_gather(uint64_t field, uint64_t shares, uint64_t size,
+                      const uint8_t *table, size_t table_len,
+                      uint8_t *values, size_t values_len,
+                      uint64_t *answer, size_t answer_len);
+
+uint64_t model_counts(uint64_t field, uint64_t shares, uint64_t size,
+                      uint64_t *answer, size_t answer_len);
+
+/* For tests that make up systems and tapes. */
+
+/* The product of two elements of the field (16 or 256). */
+uint8_t model_times(uint64_t field, uint8_t a, uint8_t b);
+
+/* The draws of one step of the list, by the paper's table. */
+uint64_t model_mask_draws(uint64_t field, uint64_t shares, uint64_t size, uint64_t step, uint64_t j);
+uint64_t model_nonzero_draws(uint64_t shares, uint64_t step);
+
+#endif
