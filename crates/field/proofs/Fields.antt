@@ -124,6 +124,15 @@ pub sub-add : (f a b : ℕ) → sub (fieldOf f) a b ≡ fieldOf f .add a b
 unfolding fieldOf
 sub-add f = sub-adds (eqb f 16)
 
+adds : (t : Bool) (a b : ℕ) → pick t F16 F256 .add a b ≡ bitXor a b % pick t F16 F256 .q
+unfolding F16 F256
+adds true a b = refl
+adds false a b = refl
+
+pub add-xor : (f a b : ℕ) → fieldOf f .add a b ≡ bitXor a b % fieldOf f .q
+unfolding fieldOf
+add-xor f = adds (eqb f 16)
+
 bitwises : (t : Bool) → Ring (bitwise (pick t F16 F256))
 unfolding F16 F256
 bitwises true = bitwise-ring 4 19

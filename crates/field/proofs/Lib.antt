@@ -4,6 +4,6 @@ pub mod Product
 pub mod Binary
 pub mod Inverses
 pub mod Fields
-pub mod Table
 pub mod Shift
+pub mod Table
 pub mod Products

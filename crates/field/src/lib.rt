@@ -291,8 +291,25 @@ fn mul16(a: u8, b: u8) -> u8
     MUL16[i][j]
 }
 
-// Shift and add, with no branch: p + x·y is the product at each turn.
-fn mul256(a: u8, b: u8) -> u8
+// The same product by shifting and adding, with no branch and no table, for loops over many bytes: p + x·y is the product at each turn.
+pub fn shift16(a: u8, b: u8) -> u8
+    ensures { λ r. ⌜ r ≡ F16 .mul a b ⌝ }
+{
+    let mut p: u8 = 0;
+    let mut x = a % 16;
+    let mut y = b % 16;
+    let mut i: usize = 0;
+    while i < 4 {
+        p ^= (y & 1) * x;
+        x = ((x << 1) % 16) ^ ((x >> 3) * 3);
+        y >>= 1;
+        i += 1;
+    }
+    p
+}
+
+// The same for F256.
+pub fn mul256(a: u8, b: u8) -> u8
     ensures { λ r. ⌜ r ≡ F256 .mul a b ⌝ }
 {
     let mut p: u8 = 0;
@@ -322,10 +339,12 @@ fn inv256(a: u8) -> u8
     INV256[i]
 }
 
+// With one mask and no choice after it: a loop over this is one loop to the compiler.
 pub fn add(f: u64, a: u8, b: u8) -> u8
     ensures { λ r. ⌜ r ≡ fieldOf f .add a b ⌝ }
 {
-    if f == 16 { (a ^ b) % 16 } else { a ^ b }
+    let m: u8 = if f == 16 { 15 } else { 255 };
+    (a ^ b) & m
 }
 
 // Sum and difference are both exclusive or.

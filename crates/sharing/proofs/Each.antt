@@ -1,10 +1,12 @@
 -- Loops that store to each place of a list in turn: what a run of such turns is in whole, as `map` or as `tab`.
 -- Assumes nothing.
 use mathlib.Core.Path.{_≡_, refl, ap, _∙_}
-use Prim.Native.Nat.{ℕ, zero, suc, _<_}
-use native.Mathlib.Nat.{not-suc-le-zero, le-of-suc-le-suc}
+use Prim.Native.Nat.{ℕ, zero, suc, _<_, _≤_}
+use native.Mathlib.Omega.{arith}
+use native.Mathlib.Nat.{not-suc-le-zero, le-of-suc-le-suc, le-refl}
 use mathlib.Core.List.{List, [], _∷_, _++_, map}
 use lib.ListN.{length, getD, set, replicate}
+use lib.Seq.{getD-set-other}
 use Rattle.sharing.specs.Run.{run, tab}
 use Rattle.sharing.proofs.Loops.{run-done}
 
@@ -48,3 +50,26 @@ each-last g (suc m) zero v l = ap {B = List ℕ} (λ t. v ∷ t) (tab-zero m)
 each-last g (suc m) (suc k) v l =
     ap {B = List ℕ} (λ t. set t (suc k) v) (each-cons (λ i x. g i) k 0 (replicate m 0))
     ∙ ap {B = List ℕ} (λ t. g 0 ∷ t) (each-last (λ i. g (suc i)) m k v (le-of-suc-le-suc l))
+
+-- `for i in 0..s.len() { s[i] = h(i, s[i]); }` is left
+each-both : (h : ℕ → ℕ → ℕ) (s : List ℕ) → run (each h) (length s) s ≡ tab (length s) (λ i. h i (getD s i 0))
+unfolding run
+each-both h [] = refl
+each-both h (x ∷ s) = each-cons h (length s) x s ∙ ap {B = List ℕ} (λ t. h 0 x ∷ t) (each-both (λ i. h (suc i)) s)
+
+pub each-own : (h : ℕ → ℕ → ℕ) (k : ℕ) (s₀ s : List ℕ) → s ≡ run (each h) k s₀ → k ≡ length s₀ → s ≡ tab (length s₀) (λ i. h i (getD s₀ i 0))
+each-own h k s₀ s i e = run-done (each h) k (length s₀) s₀ s i e ∙ each-both h s₀
+
+-- what the loop has not come to is as it was
+pub each-left : (h : ℕ → ℕ → ℕ) (k : ℕ) (s₀ s : List ℕ) → s ≡ run (each h) k s₀ → getD s k 0 ≡ getD s₀ k 0
+unfolding run
+each-left h k s₀ s e = ap (λ (t : List ℕ). getD t k 0) e ∙ go k (le-refl k)
+  where
+    go : (i : ℕ) → i ≤ k → getD (run (each h) i s₀) k 0 ≡ getD s₀ k 0
+    go zero l = refl
+    go (suc i) l = getD-set-other (run (each h) i s₀) i k _ 0 (λ z. omega arith) ∙ go i (omega arith)
+
+-- a list by its places
+pub tab-map : (g : ℕ → ℕ) (s : List ℕ) → tab (length s) (λ i. g (getD s i 0)) ≡ map g s
+tab-map g [] = refl
+tab-map g (x ∷ s) = ap {B = List ℕ} (λ t. g x ∷ t) (tab-map g s)

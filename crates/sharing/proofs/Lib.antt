@@ -7,3 +7,5 @@ pub mod Sums
 pub mod Flag
 pub mod Inverting
 pub mod Draws
+pub mod AndPasses
+pub mod Folding

@@ -10,3 +10,4 @@ pub mod Examples
 pub mod CostBounds
 pub mod Scaling
 pub mod Lent
+pub mod Rows

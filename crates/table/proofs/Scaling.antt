@@ -1,15 +1,23 @@
--- Scale: how far its loops reach, and that the array of four that an inversion returns serves as the list of its factors.
+-- Scale: how far its loops reach, that the array of four that an inversion returns serves as the list of its factors, and that a row may be
+-- multiplied whole before its entries are refreshed.
 -- Assumes nothing.
-use mathlib.Core.Path.{_≡_}
-use Prim.Native.Nat.{ℕ, _-_, _*_, _≤_}
-use mathlib.Core.List.{List}
+use mathlib.Core.Path.{_≡_, refl, sym, ap, ap₂, _∙_}
+use Prim.Native.Nat.{ℕ, zero, suc, _+_, _-_, _*_, _<_, _≤_}
+use mathlib.Core.List.{List, [], _∷_, _++_, map}
 use native.Mathlib.Omega.{arith}
-use native.Mathlib.Nat.{mul-le-mul}
+use native.Mathlib.Nat.{mul-le-mul, suc-mul}
+use lib.ListN.{length, take, drop, length-drop, take-append-drop}
+use lib.Seq.{drop-drop}
 use Rattle.field.specs.Field.{Ops}
-use Rattle.sharing.specs.Rules.{fourOf}
+use Rattle.sharing.specs.Rules.{fourOf, refresh, scaled}
 use Rattle.sharing.proofs.Loops.{run-ext}
+use Rattle.sharing.proofs.Lengths.{refresh-length, scaled-length}
 use Rattle.sharing.proofs.Inverting.{fourOf-at}
-use Rattle.table.specs.Steps.{factorTurn, scaleAll}
+use Rattle.table.specs.Layout.{part}
+use Rattle.table.specs.Steps.{scaleTurn, scaleRow, factorTurn, scaleAll}
+use Rattle.table.specs.Refreshing.{refreshColumn, refreshRow}
+use Rattle.table.proofs.Columns.{Keeps, overColumns-length, overColumns-at}
+use Rattle.table.proofs.Lengths.{scale-keeps}
 
 -- the draws of one factor
 pub turn-few : (n columns : ℕ) → n ≤ 4 → columns ≤ 97 → columns * (n - 1) ≤ 291
@@ -23,3 +31,59 @@ scaleAll-four F n columns fs ds row h =
     run-ext (factorTurn F n columns (fourOf fs) ds) (factorTurn F n columns fs ds) n
     (λ i l s. rw (fourOf-at fs i (omega arith)))
     row
+
+-- ---- a row multiplied, then refreshed
+
+-- rows whose columns are the same
+columns-ext : (n columns : ℕ) (a b : List ℕ) → length a ≡ columns * n → length b ≡ columns * n
+    → ((u : ℕ) → u < columns → part n (u * n) a ≡ part n (u * n) b) → a ≡ b
+unfolding part
+columns-ext n zero [] [] la lb h = refl
+columns-ext n zero [] (y ∷ b) la lb h = absurd (omega (arith, lb))
+columns-ext n zero (x ∷ a) b la lb h = absurd (omega (arith, la))
+columns-ext n (suc k) a b la lb h =
+    sym (take-append-drop n a)
+    ∙ ap₂ (λ (x y : List ℕ). x ++ y) (first a ∙ h 0 (omega arith) ∙ sym (first b))
+    (columns-ext n k (drop n a) (drop n b) (rw length-drop (omega (arith, la, suc-mul k n))) (rw length-drop (omega (arith, lb, suc-mul k n))) (λ u l. later a u ∙ h (suc u) (omega arith) ∙ sym (later b u)))
+    ∙ take-append-drop n b
+  where
+    first : (s : List ℕ) → take n s ≡ take n (drop (0 * n) s)
+    first s = let e : 0 * n ≡ 0 = omega arith in rw e
+
+    later : (s : List ℕ) (u : ℕ) → take n (drop (u * n) (drop n s)) ≡ take n (drop (suc u * n) s)
+    later s u = let e : n + u * n ≡ suc u * n = omega (arith, suc-mul u n) in rw (drop-drop (u * n) n s, e)
+
+take-map : (g : ℕ → ℕ) (k : ℕ) (s : List ℕ) → take k (map g s) ≡ map g (take k s)
+take-map g zero s = refl
+take-map g (suc k) [] = refl
+take-map g (suc k) (x ∷ s) = ap (λ (t : List ℕ). g x ∷ t) (take-map g k s)
+
+drop-map : (g : ℕ → ℕ) (k : ℕ) (s : List ℕ) → drop k (map g s) ≡ map g (drop k s)
+drop-map g zero s = refl
+drop-map g (suc k) [] = refl
+drop-map g (suc k) (x ∷ s) = drop-map g k s
+
+-- a part of what was multiplied
+scaled-part : (F : Ops) (z k p : ℕ) (s : List ℕ) → part k p (scaled F z s) ≡ scaled F z (part k p s)
+unfolding part scaled
+scaled-part F z k p s = ap (take k) (drop-map (F .mul z) p s) ∙ take-map (F .mul z) k (drop p s)
+
+refresh-keeps : (F : Ops) (n : ℕ) (ds : List ℕ) → Keeps n (refreshColumn F n ds)
+unfolding refreshColumn
+refresh-keeps F n ds = record { shares = λ u e l. refresh-length F _ e ∙ l }
+
+-- each column is multiplied and refreshed, in either order of the loops
+pub refresh-scaled : (F : Ops) (n columns z : ℕ) (ds row : List ℕ) → length row ≡ columns * n
+    → refreshRow F n columns ds (scaled F z row) ≡ scaleRow F n columns z ds row
+unfolding refreshRow refreshColumn scaleRow scaleTurn
+refresh-scaled F n columns z ds row l =
+    columns-ext n columns _ _
+    (overColumns-length n _ (refresh-keeps F n ds) columns (scaled F z row) lz)
+    (overColumns-length n _ (scale-keeps F n z ds) columns row l)
+    (λ u h.
+    overColumns-at n _ (refresh-keeps F n ds) columns (scaled F z row) lz u h
+    ∙ ap (refresh F (drop (u * (n - 1)) ds)) (scaled-part F z n (u * n) row)
+    ∙ sym (overColumns-at n _ (scale-keeps F n z ds) columns row l u h))
+  where
+    lz : length (scaled F z row) ≡ columns * n
+    lz = scaled-length F z row ∙ l

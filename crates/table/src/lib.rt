@@ -1,16 +1,17 @@
-// The five steps on a lent table, share for share as 01's step list says. Stands on sharing.
+// The five steps on a lent table, share for share as 01's step list says. Stands on row and sharing.
 // f is the field's number, n the shares and w the entries of a row; the step works on the table in place and on copies of what it reads
 // twice. mask and nonzero are parts of the two tapes that begin at the step's own first draw and are at least as long as it needs.
 ghost use mathlib.Core.Path.{_≡_};
-ghost use Prim.Native.Nat.{_+_, _-_, _*_, _<_, _≤_};
+ghost use Prim.Native.Nat.{_+_, _-_, _*_, _≤_};
 ghost use lib.Dec.{eqb};
 ghost use lib.ListN.{length};
 ghost use Rattle.field.specs.Field.{fieldOf, sub};
 ghost use Rattle.sharing.specs.Run.{pairs};
 ghost use Rattle.sharing.specs.Lists.{joined};
-ghost use Rattle.sharing.specs.Rules.{flagDraws, blindedValue, scaled, refresh, product};
+ghost use Rattle.sharing.specs.Rules.{flagDraws, blindedValue};
 ghost use Rattle.table.specs.Layout.{Sizes, Place, cell, tableBytes, entry, columnsFrom};
-ghost use Rattle.table.specs.Steps.{signed, columnTurn, joinTurn, joinRow, joinRows, mix, check, scaleTurn, scaleRow, scaleAll, scale, clear, opens, liftTurn, lift};
+ghost use Rattle.table.specs.Steps.{signed, joinRow, joinRows, mix, check, scaleRow, scaleAll, scale, clear, opens, liftTurn, lift};
+ghost use Rattle.table.specs.Refreshing.{refreshRow};
 ghost use Rattle.table.specs.Costs.{mixCost, checkCost, scaleCost, scaleNonzero, clearCost, openCost};
 use sharing::Factors;
 
@@ -43,62 +44,25 @@ fn join(f: u64, minus: bool, s: &mut [u8], v: &[u8])
     }
 }
 
-// One entry: e += or -= Product(factor, other).
-fn join_entry(f: u64, minus: bool, e: &mut [u8], other: &[u8], factor: &[u8], mask: &[u8])
-    requires { ⌜ (length (now e) ≤ 4) × (length (now other) ≡ length (now e)) × (length (now factor) ≡ length (now e)) ⌝ }
-    requires { ⌜ pairs (length (now e)) ≤ length (now mask) ⌝ }
-    ensures { λ r. ⌜ now (e .exit) ≡ joined (signed (fieldOf f) minus) (now (e .entry)) (product (fieldOf f) (now (mask .entry)) (now (factor .entry)) (now (other .entry))) ⌝ }
-{
-    let n = e.len();
-    let mut out = [0u8; 4];
-    sharing::product(f, &mut out[..n], factor, other, mask);
-    join(f, minus, e, &out[..n]);
-}
-
-// Column u of a row; its first byte is at p, and its first draw at d.
-fn join_column(
-    f: u64,
-    minus: bool,
-    n: usize,
-    row: &mut [u8],
-    other: &[u8],
-    factor: &[u8],
-    mask: &[u8],
-    u: usize,
-    p: usize,
-    d: usize,
-)
-    requires { ⌜ (n ≤ 4) × (length (now factor) ≡ n) × (p ≡ u * n) × (d ≡ u * pairs n) ⌝ }
-    requires { ⌜ (p + n ≤ length (now row)) × (p + n ≤ length (now other)) × (d + pairs n ≤ length (now mask)) ⌝ }
-    ensures { λ r. ⌜ now (row .exit) ≡ columnTurn n (joinTurn (fieldOf f) minus n (now (mask .entry)) (now (factor .entry)) (now (other .entry))) u (now (row .entry)) ⌝ }
-{
-    let e = p + n;
-    join_entry(f, minus, &mut row[p..e], &other[p..e], factor, &mask[d..]);
-}
-
-// A row from some column on, columns in order: row += or -= Product(factor, other row). Mix and Clear spend their time here.
+// A row from some column on: row += or -= Product(factor, other row), as if column by column. Mix and Clear spend their time here. What
+// is behind the columns of the other row is room to work in.
 fn join_row(
     f: u64,
     minus: bool,
     n: usize,
     columns: usize,
     row: &mut [u8],
-    other: &[u8],
+    other: &mut [u8],
     factor: &[u8],
     mask: &[u8],
 )
-    requires { ⌜ (2 ≤ n) × (n ≤ 4) × (columns ≤ 97) × (length (now factor) ≡ n) ⌝ }
-    requires { ⌜ (length (now row) ≡ columns * n) × (length (now other) ≡ columns * n) × (columns * pairs n ≤ length (now mask)) ⌝ }
+    requires { ⌜ (2 ≤ n) × (n ≤ 4) × (1 ≤ columns) × (columns ≤ 97) × (length (now factor) ≡ n) ⌝ }
+    requires { ⌜ (length (now row) ≡ columns * n) × (length (now other) ≡ 400) × (columns * pairs n ≤ length (now mask)) ⌝ }
     ensures { λ r. ⌜ now (row .exit) ≡ joinRow (fieldOf f) minus n columns (now (mask .entry)) (now (factor .entry)) (now (other .entry)) (now (row .entry)) ⌝ }
 {
-    let np = sharing::pair_count(n);
-    let mut p: usize = 0;
-    let mut d: usize = 0;
-    for u in 0..columns {
-        join_column(f, minus, n, row, other, factor, mask, u, p, d);
-        p += n;
-        d += np;
-    }
+    row::product(f, n, columns, other, factor, mask);
+    let len = row.len();
+    join(f, minus, row, &other[..len]);
 }
 
 // Row a += or -= Product(factor, row b), from column j on. Row b is copied, so that the two rows are separate slices below.
@@ -124,7 +88,7 @@ fn join_rows(
     let len = columns * n;
     let p = cell(n, rows, w, a, j);
     let o = cell(n, rows, w, b, j);
-    let mut other = [0u8; 388];
+    let mut other = [0u8; 400];
     sharing::copy_into(&mut other[..len], &table[o..o + len]);
     join_row(
         f,
@@ -132,7 +96,7 @@ fn join_rows(
         n,
         columns,
         &mut table[p..p + len],
-        &other[..len],
+        &mut other[..],
         factor,
         mask,
     );
@@ -193,37 +157,47 @@ pub fn check(
     sharing::opening(f, &flag[..n], &mask[d..])
 }
 
-// One entry times z, refreshed.
-fn scale_entry(f: u64, e: &mut [u8], z: u8, mask: &[u8])
-    requires { ⌜ (0 < length (now e)) × (length (now e) - 1 ≤ length (now mask)) ⌝ }
-    ensures { λ r. ⌜ now (e .exit) ≡ refresh (fieldOf f) (now (mask .entry)) (scaled (fieldOf f) z (now (e .entry))) ⌝ }
+// Each entry refreshed, columns in order.
+fn refresh_columns(f: u64, n: usize, columns: usize, row: &mut [u8], mask: &[u8])
+    requires { ⌜ (2 ≤ n) × (n ≤ 4) × (columns ≤ 97) ⌝ }
+    requires { ⌜ (length (now row) ≡ columns * n) × (columns * (n - 1) ≤ length (now mask)) ⌝ }
+    ensures { λ r. ⌜ now (row .exit) ≡ refreshRow (fieldOf f) n columns (now (mask .entry)) (now (row .entry)) ⌝ }
 {
-    sharing::scale(f, e, z);
-    sharing::refresh(f, e, mask);
+    let mut p: usize = 0;
+    let mut d: usize = 0;
+    for u in 0..columns {
+        let e = p + n;
+        sharing::refresh(f, &mut row[p..e], &mask[d..]);
+        p = e;
+        d += n - 1;
+    }
 }
 
-fn scale_column(f: u64, n: usize, row: &mut [u8], z: u8, mask: &[u8], u: usize, p: usize, d: usize)
-    requires { ⌜ (2 ≤ n) × (n ≤ 4) × (p ≡ u * n) × (d ≡ u * (n - 1)) ⌝ }
-    requires { ⌜ (p + n ≤ length (now row)) × (d + (n - 1) ≤ length (now mask)) ⌝ }
-    ensures { λ r. ⌜ now (row .exit) ≡ columnTurn n (scaleTurn (fieldOf f) n z (now (mask .entry))) u (now (row .entry)) ⌝ }
+// A number for n in each call, so that the compiler unrolls the loop over shares.
+fn refresh_row(f: u64, n: usize, columns: usize, row: &mut [u8], mask: &[u8])
+    requires { ⌜ (2 ≤ n) × (n ≤ 4) × (columns ≤ 97) ⌝ }
+    requires { ⌜ (length (now row) ≡ columns * n) × (columns * (n - 1) ≤ length (now mask)) ⌝ }
+    ensures { λ r. ⌜ now (row .exit) ≡ refreshRow (fieldOf f) n columns (now (mask .entry)) (now (row .entry)) ⌝ }
 {
-    let e = p + n;
-    scale_entry(f, &mut row[p..e], z, &mask[d..]);
+    if n == 2 {
+        refresh_columns(f, 2, columns, row, mask);
+    } else {
+        if n == 3 {
+            refresh_columns(f, 3, columns, row, mask);
+        } else {
+            refresh_columns(f, 4, columns, row, mask);
+        }
+    }
 }
 
-// One factor, columns in order.
+// One factor: the whole row times z, then each entry refreshed, as if column by column.
 fn scale_row(f: u64, n: usize, columns: usize, row: &mut [u8], z: u8, mask: &[u8])
     requires { ⌜ (2 ≤ n) × (n ≤ 4) × (columns ≤ 97) ⌝ }
     requires { ⌜ (length (now row) ≡ columns * n) × (columns * (n - 1) ≤ length (now mask)) ⌝ }
     ensures { λ r. ⌜ now (row .exit) ≡ scaleRow (fieldOf f) n columns z (now (mask .entry)) (now (row .entry)) ⌝ }
 {
-    let mut p: usize = 0;
-    let mut d: usize = 0;
-    for u in 0..columns {
-        scale_column(f, n, row, z, mask, u, p, d);
-        p += n;
-        d += n - 1;
-    }
+    sharing::scale(f, row, z);
+    refresh_row(f, n, columns, row, mask);
 }
 
 // Each factor in order.

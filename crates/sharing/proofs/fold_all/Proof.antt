@@ -1,104 +1,107 @@
--- `sharing::fold_all` meets its contract. The loop's invariant: the sharing is a run of the folds so far, and at is how many draws they took.
--- Assumes nothing.
+-- `sharing::fold_all` meets its contract: it does the folds of each field one by one, and each one's draws begin where those of the one
+-- before end. Assumes nothing.
 use native.Mathlib.Omega.{arith}
-use mathlib.Core.Path.{_≡_}
+use mathlib.Core.Path.{_≡_, _∙_}
 use Prim.Native.Nat.{_+_, _-_, _*_, _≤_}
 use lib.ListN.{length, length-drop}
-use Rattle.sharing.specs.Run.{run}
-use Rattle.sharing.proofs.Loops.{run-none, run-next, run-done, rest, taken-more, taken-room}
+use borrow.Author.Tests.{eq-eqb, ne-eqb}
+use Rattle.sharing.specs.Rules.{foldDraws}
+use Rattle.sharing.proofs.Loops.{rest}
 use Rattle.sharing.proofs.Pairs.{pairs-small}
-use Rattle.sharing.specs.Rules.{foldTurn, foldDraws, folds}
+use Rattle.sharing.proofs.Folding.{folds-two, folds-three, fold-two, fold-three}
 use borrow.Author.Needs.{needs}
 use Rattle.sharing.proofs.fold_all.Statement.{statement}
 use Rattle.sharing.proofs.fold_all.Tie as tie
 
-abbrev Inv-loop : tie.InvT-loop
-Inv-loop f s₀ ds n turn count at₀ i₀ s at i =
-    (i ≤ count) × (at ≡ i * foldDraws (length s₀)) × (length s ≡ length s₀) × (s ≡ run (foldTurn f ds (length s₀)) i s₀)
+-- how many draws a fold takes
+turn-is : (c : tie.After-pair-count) → let n = length (c .before .before .before .args .s .now) in n - 1 + c .pair-count .result ≡ foldDraws n
+unfolding foldDraws
+turn-is c = rw (c .pair-count .ensures)
 
-abbrev μ-loop : tie.MeasureT-loop
-μ-loop f s₀ ds n turn count at₀ i₀ s at i = count - i
+-- the draws are there
+two-there : (c : tie.Then1) → let x = c .before .before .before .before .args in 2 * foldDraws (length (x .s .now)) ≤ length (x .ds .now)
+two-there c = let s = c .before .before .before .before in rw (folds-two (s .args .f) (eq-eqb (s .args .f) 16 (c .if1 .taken))) at (s .pre .2)
 
--- the draws of one more fold are there
-room : (c : tie.In-loop Inv-loop μ-loop) → c .before .loop .at + foldDraws (length (c .before .before .before .before .before .before .args .s .now)) ≤ length (c .before .before .before .before .before .before .args .ds .now)
-room c =
-    let l = c .before .loop in
-    taken-room (l .at) (l .i) (foldDraws (length (c .before .before .before .before .before .before .args .s .now))) (folds (c .before .before .before .before .before .before .args .f)) (l .inv .1) (omega arith) (omega arith)
+three-there : (c : tie.Else1) → let x = c .before .before .before .before .args in 3 * foldDraws (length (x .s .now)) ≤ length (x .ds .now)
+three-there c = let s = c .before .before .before .before in rw (folds-three (s .args .f) (ne-eqb (s .args .f) 16 (c .if1 .left))) at (s .pre .2)
 
-sub-turn : tie.Need-sub-turn Inv-loop μ-loop
+sub-turn : tie.Need-sub-turn
 sub-turn c = search needs
 
-pair-count-requires : tie.Need-pair-count-requires Inv-loop μ-loop
+pair-count-requires : tie.Need-pair-count-requires
 pair-count-requires c κs = search needs
 
-add-turn : tie.Need-add-turn Inv-loop μ-loop
+add-turn : tie.Need-add-turn
 add-turn c = omega (arith, pairs-small (length (c .before .before .before .args .s .now)) (omega arith))
 
-fold-count-requires : tie.Need-fold-count-requires Inv-loop μ-loop
-fold-count-requires c κs = search needs
+slice-aggregate-fold-twice : tie.Need-slice-aggregate-fold-twice
+slice-aggregate-fold-twice c = search needs
 
-loop-holds : tie.Need-loop-holds Inv-loop μ-loop
-loop-holds c = (search needs, search needs, search needs, run-none _ _)
+slice-aggregate-fold-twice-2 : tie.Need-slice-aggregate-fold-twice-2
+slice-aggregate-fold-twice-2 c = search needs
 
-half-width-requires : tie.Need-half-width-requires Inv-loop μ-loop
-half-width-requires c κs = search needs
+fold-twice-requires : tie.Need-fold-twice-requires
+fold-twice-requires c κs = let m = pairs-small (length (c .before .before .before .before .before .before .before .args .s .now)) (omega arith) in let p = c .before .before .before .before .before .before .before .pre in ((p .0, p .1, two-there (c .before .before .before)), (m, m))
 
-sub-fold : tie.Need-sub-fold Inv-loop μ-loop
-sub-fold c = omega (arith, room (c .before .before))
+slice-aggregate-fold : tie.Need-slice-aggregate-fold
+slice-aggregate-fold c = search needs
 
-part-fold-start : tie.Need-part-fold-start Inv-loop μ-loop
-part-fold-start c = omega (arith, room (c .before .before))
+slice-aggregate-fold-2 : tie.Need-slice-aggregate-fold-2
+slice-aggregate-fold-2 c = search needs
 
-part-fold-end : tie.Need-part-fold-end Inv-loop μ-loop
-part-fold-end c = search needs
+fold-requires : tie.Need-fold-requires
+fold-requires c κs = let m = pairs-small (length (c .before .before .before .before .before .before .before .args .s .now)) (omega arith) in let p = c .before .before .before .before .before .before .before .pre in ((omega arith, p .0, p .1, omega (arith, three-there (c .before .before .before))), (m, m))
 
-fold-requires : tie.Need-fold-requires Inv-loop μ-loop
-fold-requires c κs = rw (c .before .before .before .before .loop .inv .2, rest, length-drop) (omega (arith, room (c .before .before .before), c .before .before .half-width .ensures))
+slice-aggregate-fold-twice-3 : tie.Need-slice-aggregate-fold-twice-3
+slice-aggregate-fold-twice-3 c = search needs
 
-add-at : tie.Need-add-at Inv-loop μ-loop
-unfolding foldDraws
-add-at c = omega (arith, room (c .before .before .before .before .before .before))
+slice-aggregate-fold-twice-4 : tie.Need-slice-aggregate-fold-twice-4
+slice-aggregate-fold-twice-4 c = search needs
 
-add-i : tie.Need-add-i Inv-loop μ-loop
-add-i c = search needs
+sub-fold-twice : tie.Need-sub-fold-twice
+sub-fold-twice c = omega (arith, turn-is (c .before .before .before .before .before .before .before .before .before .before .before .before), three-there (c .before .before .before .before .before .before .before .before .before .before .before))
 
-loop-less : tie.Need-loop-less Inv-loop μ-loop
-loop-less c = search needs
+part-fold-twice-start : tie.Need-part-fold-twice-start
+part-fold-twice-start c = omega (arith, turn-is (c .before .before .before .before .before .before .before .before .before .before .before .before), three-there (c .before .before .before .before .before .before .before .before .before .before .before))
 
-loop-again : tie.Need-loop-again Inv-loop μ-loop
-unfolding foldDraws
-loop-again c = let l = c .before .before .before .before .before .before .before .loop in (
-  search needs,
-  rw (c .before .before .before .before .before .before .before .before .before .pair-count .ensures) (taken-more (l .at) (l .i) _ (l .inv .1)),
-  search needs,
-  run-next _ _ _ _ _ (l .inv .3) (rw (rest, c .before .before .before .before .before .half-width .ensures .0, l .inv .1) at (c .before .before .fold .ensures)),
-)
+part-fold-twice-end : tie.Need-part-fold-twice-end
+part-fold-twice-end c = search needs
 
-same-length : tie.Need-same-length Inv-loop μ-loop
+fold-twice-requires-2 : tie.Need-fold-twice-requires-2
+fold-twice-requires-2 c κs = let m = pairs-small (length (c .before .before .before .before .before .before .before .before .before .before .before .before .before .before .before .before .args .s .now)) (omega arith) in let p = c .before .before .before .before .before .before .before .before .before .before .before .before .before .before .before .before .pre in let k = c .before .before .before .before .before .before .before .before .fold .kept in rw (k .1 .0, k .1 .1 .0, k .1 .1 .1 .0, rest, length-drop) ((p .0, p .1, omega (arith, turn-is (c .before .before .before .before .before .before .before .before .before .before .before .before .before), three-there (c .before .before .before .before .before .before .before .before .before .before .before .before))), (m, m))
+
+same-length : tie.Need-same-length
 same-length c = search needs
 
-returns : tie.Need-returns Inv-loop μ-loop
-returns c = run-done _ _ _ _ _ (c .before .loop .inv .3) (omega arith)
+returns : tie.Need-returns
+returns c = let s = c .before .before .before .before .before .before .before .before .before .before .before .before in c .before .before .before .before .fold-twice .ensures ∙ fold-two (s .args .f) (length (s .args .s .now)) (s .args .ds .now) (s .args .s .now) (eq-eqb (s .args .f) 16 (c .before .before .before .before .before .before .before .before .if1 .taken))
+
+same-length-2 : tie.Need-same-length-2
+same-length-2 c = search needs
+
+returns-2 : tie.Need-returns-2
+returns-2 c = let s = c .before .before .before .before .before .before .before .before .before .before .before .before .before .before .before .before .before .before .before .before .before in (rw (c .before .before .before .before .before .before .before .before .before .before .before .before .before .fold .kept .1 .0, rest, turn-is (c .before .before .before .before .before .before .before .before .before .before .before .before .before .before .before .before .before .before), c .before .before .before .before .before .before .before .before .before .before .before .before .before .fold .ensures) at (c .before .before .before .before .fold-twice2 .ensures)) ∙ fold-three (s .args .f) (length (s .args .s .now)) (s .args .ds .now) (s .args .s .now) (ne-eqb (s .args .f) 16 (c .before .before .before .before .before .before .before .before .before .before .before .before .before .before .before .before .before .if1 .left))
 
 pub fold-all-spec : {M : Type 1} → statement M
 fold-all-spec =
     tie.close
     (tie.spec
-    Inv-loop
-    μ-loop
     sub-turn
     pair-count-requires
     add-turn
-    fold-count-requires
-    loop-holds
-    half-width-requires
-    sub-fold
-    part-fold-start
-    part-fold-end
+    slice-aggregate-fold-twice
+    slice-aggregate-fold-twice-2
+    fold-twice-requires
+    slice-aggregate-fold
+    slice-aggregate-fold-2
     fold-requires
-    add-at
-    add-i
-    loop-less
-    loop-again
+    slice-aggregate-fold-twice-3
+    slice-aggregate-fold-twice-4
+    sub-fold-twice
+    part-fold-twice-start
+    part-fold-twice-end
+    fold-twice-requires-2
     same-length
-    returns)
+    returns
+    same-length-2
+    returns-2)

@@ -1,12 +1,12 @@
--- `sharing::shift` meets its contract. The loop's invariant: the turns so far have shifted each place passed.
+-- `sharing::shift` meets its contract. The loop's invariant: the turns so far have stored each place passed, shifted.
 -- Assumes nothing.
 use native.Mathlib.Omega.{arith}
-use mathlib.Core.Path.{_≡_, ap}
+use mathlib.Core.Path.{_≡_, ap, _∙_}
 use Prim.Native.Nat.{ℕ, _-_, _/_, _≤_, _%_, _^_}
-use lib.ListN.{length, set, length-set}
+use lib.ListN.{length, getD, set, length-set}
 use Rattle.sharing.specs.Run.{run}
 use Rattle.sharing.proofs.Loops.{run-none, run-next}
-use Rattle.sharing.proofs.Each.{each, each-map}
+use Rattle.sharing.proofs.Each.{each, each-tab, tab-map}
 use Rattle.sharing.specs.Rules.{shifted}
 use Rattle.field.specs.Field.{fieldOf}
 use borrow.Author.Needs.{needs}
@@ -14,26 +14,26 @@ use Rattle.sharing.proofs.shift.Statement.{statement}
 use Rattle.sharing.proofs.shift.Tie as tie
 
 abbrev Inv-loop : tie.InvT-loop
-Inv-loop f s₀ h i₀ i-end s i =
-    (i-end ≡ length s₀) × (i ≤ i-end) × (length s ≡ length s₀) × (s ≡ run (each (λ k. λ x. x % fieldOf f .q / 2 ^ h)) i s₀)
+Inv-loop f n t₀ s h i₀ t i =
+    (i ≤ n) × (length t ≡ length t₀) × (t ≡ run (each (λ k x. getD s k 0 % fieldOf f .q / 2 ^ h)) i t₀)
 
 abbrev μ-loop : tie.MeasureT-loop
-μ-loop f s₀ h i₀ i-end s i = i-end - i
+μ-loop f n t₀ s h i₀ t i = n - i
 
 loop-holds : tie.Need-loop-holds Inv-loop μ-loop
-loop-holds c = (search needs, search needs, search needs, run-none _ _)
+loop-holds c = (search needs, search needs, run-none _ _)
 
-slice-read-draw : tie.Need-slice-read-draw Inv-loop μ-loop
-slice-read-draw c = search needs
+shared-slice-read-draw : tie.Need-shared-slice-read-draw Inv-loop μ-loop
+shared-slice-read-draw c = search needs
 
 draw-requires : tie.Need-draw-requires Inv-loop μ-loop
 draw-requires c κs = search needs
 
-shr-s : tie.Need-shr-s Inv-loop μ-loop
-shr-s c = search needs
+shr-t : tie.Need-shr-t Inv-loop μ-loop
+shr-t c = search needs
 
-slice-write-s : tie.Need-slice-write-s Inv-loop μ-loop
-slice-write-s c = search needs
+slice-write-t : tie.Need-slice-write-t Inv-loop μ-loop
+slice-write-t c = search needs
 
 add-i : tie.Need-add-i Inv-loop μ-loop
 add-i c = search needs
@@ -44,9 +44,8 @@ loop-less c = search needs
 loop-again : tie.Need-loop-again Inv-loop μ-loop
 loop-again c = let l = c .before .before .before .loop in (
   search needs,
-  search needs,
-  simp length-set (l .inv .2),
-  run-next _ _ _ _ _ (l .inv .3) (ap (λ (x : ℕ). set (l .s) (l .i) (x / 2 ^ c .before .before .before .before .before .args .h)) (c .draw .ensures)),
+  simp length-set (l .inv .1),
+  run-next _ _ _ _ _ (l .inv .2) (ap (λ (x : ℕ). set (l .t) (l .i) (x / 2 ^ c .before .before .before .before .before .before .args .h)) (c .draw .ensures)),
 )
 
 same-length : tie.Need-same-length Inv-loop μ-loop
@@ -54,7 +53,11 @@ same-length c = search needs
 
 returns : tie.Need-returns Inv-loop μ-loop
 unfolding shifted
-returns c = each-map _ _ (c .before .before .before .args .s .now) _ (c .before .loop .inv .3) (omega arith)
+returns c =
+    let x = c .before .before .before .before .args in
+    let e : c .before .loop .i ≡ length (x .s .now) = omega arith in
+    (rw e at (each-tab _ _ (x .t .now) _ (c .before .loop .inv .2) (omega arith)))
+    ∙ tab-map (λ (y : ℕ). y % fieldOf (x .f) .q / 2 ^ x .h) (x .s .now)
 
 pub shift-spec : {M : Type 1} → statement M
 shift-spec =
@@ -63,10 +66,10 @@ shift-spec =
     Inv-loop
     μ-loop
     loop-holds
-    slice-read-draw
+    shared-slice-read-draw
     draw-requires
-    shr-s
-    slice-write-s
+    shr-t
+    slice-write-t
     add-i
     loop-less
     loop-again

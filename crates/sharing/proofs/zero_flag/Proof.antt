@@ -9,10 +9,10 @@ use Rattle.sharing.proofs.zero_flag.Statement.{statement}
 use Rattle.sharing.proofs.zero_flag.Tie as tie
 
 copied : (c : tie.After-complement) → length (c .complement .last .1 .0) ≡ length (c .before .before .before .before .before .before .before .before .before .args .s .now)
-copied c = c .complement .kept .1 .0 ∙ ap length (c .before .before .before .before .copy-into .ensures)
+copied c = c .complement .kept .1 .0 ∙ ap length (c .before .before .before .before .copy-shares .ensures)
 
-copy-into-requires : tie.Need-copy-into-requires
-copy-into-requires c κs = search needs
+copy-shares-requires : tie.Need-copy-shares-requires
+copy-shares-requires c κs = search needs
 
 complement-requires : tie.Need-complement-requires
 complement-requires c κs = search needs
@@ -30,13 +30,13 @@ returns : tie.Need-returns
 unfolding zeroFlag
 returns c = let a = c .before .before .before .before .before .before in
     let d = a .before .before .before .before in
-    rw (a .fold-all .ensures, copied d, d .complement .ensures, d .before .before .before .before .copy-into .ensures) at (c .before .before .low-bits .ensures)
+    rw (a .fold-all .ensures, copied d, d .complement .ensures, d .before .before .before .before .copy-shares .ensures) at (c .before .before .low-bits .ensures)
 
 pub zero-flag-spec : {M : Type 1} → statement M
 zero-flag-spec =
     tie.close
     (tie.spec
-    copy-into-requires
+    copy-shares-requires
     complement-requires
     fold-all-requires
     low-bits-requires

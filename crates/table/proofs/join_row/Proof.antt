@@ -1,78 +1,60 @@
--- `table::join_row` meets its contract. The loop's invariant: the row is a run of the columns so far, and p and d are where the next one begins.
+-- `table::join_row` meets its contract: the other row becomes a row of Products, and these join the row.
 -- Assumes nothing.
-use mathlib.Core.Path.{_≡_}
-use Prim.Native.Nat.{_+_, _-_, _*_, _≤_}
+use mathlib.Core.Path.{sym, ap, _∙_}
+use Prim.Native.Nat.{ℕ, _≤_}
 use native.Mathlib.Omega.{arith}
-use lib.ListN.{length}
+use lib.ListN.{length, take}
+use lib.Seq.{length-take-le}
 use Rattle.field.specs.Field.{fieldOf}
-use Rattle.sharing.specs.Run.{run, pairs}
-use Rattle.sharing.proofs.Loops.{run-none, run-next, run-done, taken-more, taken-room}
-use Rattle.table.specs.Steps.{columnTurn, overColumns, joinTurn, joinRow}
+use Rattle.sharing.specs.Lists.{joined}
+use Rattle.table.specs.Steps.{signed}
+use Rattle.table.proofs.Rows.{bytes-small, products-join}
 use borrow.Author.Needs.{needs}
 use Rattle.table.proofs.join_row.Statement.{statement}
 use Rattle.table.proofs.join_row.Tie as tie
 
-abbrev Inv-loop : tie.InvT-loop
-Inv-loop f minus n columns row₀ other factor mask np p₀ d₀ u₀ row p d u = (u ≤ columns) × (p ≡ u * n) × (d ≡ u * pairs n) × (length row ≡ length row₀) × (row ≡ run (columnTurn n (joinTurn (fieldOf f) minus n mask factor other)) u row₀)
+-- there is room for the row's columns
+long : (c : tie.After-product) → length (c .before .before .before .before .before .before .args .row .now) ≤ length (c .product .last .1 .1 .1 .0)
+long c =
+    let s = c .before .before .before .before .before .before in
+    omega (arith, c .product .kept .1 .1 .1 .0, bytes-small {n = s .args .n} {columns = s .args .columns} (s .pre .0 .1) (s .pre .0 .3))
 
-abbrev μ-loop : tie.MeasureT-loop
-μ-loop f minus n columns row₀ other factor mask np p₀ d₀ u₀ row p d u = columns - u
+product-requires : tie.Need-product-requires
+product-requires c κs = search needs
 
--- the draws and the bytes of one more column are there
-draws : (c : tie.In-loop Inv-loop μ-loop) → let x = c .before .before .before .before .before .before .before .args in c .before .loop .d + pairs (x .n) ≤ length (x .mask .now)
-draws c =
-    let l = c .before .loop in
-    let x = c .before .before .before .before .before .before .before .args in taken-room (l .d) (l .u) (pairs (x .n)) (x .columns) (l .inv .2) (omega arith) (omega arith)
+slice-reshare-prefix-join : tie.Need-slice-reshare-prefix-join
+slice-reshare-prefix-join c = long (c .before .before .before)
 
-bytes : (c : tie.In-loop Inv-loop μ-loop) → let x = c .before .before .before .before .before .before .before .args in c .before .loop .p + x .n ≤ x .columns * x .n
-bytes c =
-    let l = c .before .loop in
-    let x = c .before .before .before .before .before .before .before .args in taken-room (l .p) (l .u) (x .n) (x .columns) (l .inv .1) (omega arith) (omega arith)
+slice-aggregate-join : tie.Need-slice-aggregate-join
+slice-aggregate-join c = sym (length-take-le _ _ (long (c .before .before .before .before)))
 
-pair-count-requires : tie.Need-pair-count-requires Inv-loop μ-loop
-pair-count-requires c κs = search needs
+join-requires : tie.Need-join-requires
+join-requires c κs = length-take-le _ _ (long (c .before .before .before .before))
 
-loop-holds : tie.Need-loop-holds Inv-loop μ-loop
-loop-holds c = (search needs, search needs, search needs, search needs, run-none _ _)
-
-join-column-requires : tie.Need-join-column-requires Inv-loop μ-loop
-join-column-requires c κs = omega (arith, draws (c .before), bytes (c .before))
-
-add-p : tie.Need-add-p Inv-loop μ-loop
-add-p c = omega (arith, bytes (c .before .before .before .before))
-
-add-d : tie.Need-add-d Inv-loop μ-loop
-add-d c = omega (arith, draws (c .before .before .before .before))
-
-add-u : tie.Need-add-u Inv-loop μ-loop
-add-u c = search needs
-
-loop-less : tie.Need-loop-less Inv-loop μ-loop
-loop-less c = search needs
-
-loop-again : tie.Need-loop-again Inv-loop μ-loop
-loop-again c = let l = c .before .before .before .before .before .loop in (search needs, taken-more (l .p) (l .u) _ (l .inv .1), rw (c .before .before .before .before .before .before .pair-count .ensures) (taken-more (l .d) (l .u) _ (l .inv .2)), search needs, run-next _ _ _ _ _ (l .inv .4) (c .before .before .join-column .ensures))
-
-same-length : tie.Need-same-length Inv-loop μ-loop
+same-length : tie.Need-same-length
 same-length c = search needs
 
-returns : tie.Need-returns Inv-loop μ-loop
-unfolding joinRow overColumns
-returns c = run-done _ _ _ _ _ (c .before .loop .inv .4) (omega arith)
+same-length-2 : tie.Need-same-length-2
+same-length-2 c = search needs
+
+returns : tie.Need-returns
+returns c =
+    let s = c .before .before .before .before .before .before .before .before .before .before .before .before .before in
+    let x = s .args in
+    let p = c .before .before .before .before .before .before .before in
+    c .before .before .join .ensures
+    ∙ ap (λ (k : ℕ). joined (signed (fieldOf (x .f)) (x .minus)) (x .row .now) (take k (p .product .last .1 .1 .1 .0))) (s .pre .1 .0)
+    ∙ products-join (x .f) (x .minus) (x .n) (x .columns) (x .mask .now) (x .factor .now) (x .other .now) (p .product .last .1 .1 .1 .0) (x .row .now)
+    (omega arith) (s .pre .1 .0) (p .product .ensures)
 
 pub join-row-spec : {M : Type 1} → statement M
 join-row-spec =
     tie.close
     (tie.spec
-    Inv-loop
-    μ-loop
-    pair-count-requires
-    loop-holds
-    join-column-requires
-    add-p
-    add-d
-    add-u
-    loop-less
-    loop-again
+    product-requires
+    slice-reshare-prefix-join
+    slice-aggregate-join
+    join-requires
     same-length
+    same-length-2
     returns)

@@ -3,19 +3,21 @@
 use mathlib.Core.Path.{_≡_, refl, _∙_, sym}
 use Prim.Native.Nat.{_+_, _*_, _≤_}
 use native.Mathlib.Omega.{arith}
-use lib.ListN.{length, length-append}
-use lib.Seq.{length-take-le, take-at}
+use mathlib.Core.List.{_++_}
+use lib.ListN.{length, drop, replicate, length-append, length-drop}
+use lib.Seq.{length-take-le}
 use Rattle.table.specs.Layout.{columnsFrom}
 use Rattle.table.specs.Steps.{joinRows}
 use Rattle.table.proofs.Parts.{part-lent, put-lent}
 use Rattle.table.proofs.Cells.{row-in}
 use Rattle.table.proofs.Lent.{lent-length, row-small}
+use Rattle.table.proofs.Rows.{joinRow-front}
 use borrow.Author.Needs.{needs}
 use Rattle.table.proofs.join_rows.Statement.{statement}
 use Rattle.table.proofs.join_rows.Tie as tie
 
-small : (c : tie.After-shared-slice-known2) → let x = c .before .before .before .args in columnsFrom (x .w) (x .j) * x .n ≤ 388
-small c = row-small (c .before .before .before .pre .0) (c .before .before .before .pre .1 .0 .0)
+small : (c : tie.After-shared-slice-known2) → let x = c .before .before .before .args in columnsFrom (x .w) (x .j) * x .n ≤ 400
+small c = omega (arith, row-small (c .before .before .before .pre .0) (c .before .before .before .pre .1 .0 .0))
 
 row-a : (c : tie.After-cell2) → let x = c .before .before .before .before .before .args in c .before .cell .result + columnsFrom (x .w) (x .j) * x .n ≤ length (x .table .now)
 row-a c = omega (arith, row-in (c .before .before .before .before .before .args .n) (c .before .before .before .before .before .pre .1 .0 .0))
@@ -25,6 +27,10 @@ row-b c = omega (arith, row-in (c .before .before .before .before .before .args 
 
 copied : (c : tie.After-copy-into) → let x = c .before .before .before .before .before .before .before .before .before .args in length (c .copy-into .last .0) ≡ columnsFrom (x .w) (x .j) * x .n
 copied c = c .copy-into .kept .0 ∙ length-take-le _ _ (small (c .before .before .before .before .before .before))
+
+-- the copy and the room behind it
+whole : (c : tie.After-copy-into) → let x = c .before .before .before .before .before .before .before .before .before .args in length (c .copy-into .last .0 ++ drop (columnsFrom (x .w) (x .j) * x .n) (replicate 400 0)) ≡ 400
+whole c = simp (length-append, length-drop) (omega (arith, copied c, small (c .before .before .before .before .before .before)))
 
 add-columns : tie.Need-add-columns
 add-columns c = search needs
@@ -74,27 +80,26 @@ part-join-row-start c = search needs
 part-join-row-end : tie.Need-part-join-row-end
 part-join-row-end c = omega (arith, row-a (c .before .before .before .before .before))
 
-array-share-prefix-other : tie.Need-array-share-prefix-other
-array-share-prefix-other c = simp length-append (omega (arith, copied (c .before .before)))
-
 slice-aggregate-join-row : tie.Need-slice-aggregate-join-row
-slice-aggregate-join-row c = let e = copied (c .before .before .before) in rw (take-at _ _ _ e) (sym e)
+slice-aggregate-join-row c = sym (whole (c .before .before .before))
 
 join-row-requires : tie.Need-join-row-requires
-join-row-requires c κs = let d = c .before .before .before in
+join-row-requires c κs =
+    let d = c .before .before .before in
     let g = d .before .before .before .before in
-    rw (take-at _ _ _ (copied d), lent-length _ _ _ (row-a g)) (search needs, (refl, copied d, search needs))
+    rw (lent-length _ _ _ (row-a g)) ((search needs, search needs, search needs, search needs, search needs), (refl, whole d, search needs))
 
 same-length : tie.Need-same-length
 same-length c = search needs
 
 returns : tie.Need-returns
 unfolding joinRows
-returns c = let d = c .before .before .before .before .before .before in
+returns c =
+    let d = c .before .before .before .before .before .before .before in
     let g = d .before .before .before .before in
     let x = g .before .before .before .before .before .args in
     let l = columnsFrom (x .w) (x .j) * x .n in
-    rw (put-lent l (g .before .cell .result) _ (x .table .now), c .before .before .join-row .ensures, take-at _ _ _ (copied d), d .copy-into .ensures, part-lent l (g .cell2 .result) (x .table .now), part-lent l (g .before .cell .result) (x .table .now), g .before .cell .ensures, g .cell2 .ensures)
+    rw (put-lent l (g .before .cell .result) _ (x .table .now), c .before .before .before .join-row .ensures, joinRow-front (x .f) (x .n) (columnsFrom (x .w) (x .j)) (x .minus) (x .mask .now) (x .factor .now) (d .copy-into .last .0) (drop l (replicate 400 0)) _ (copied d), d .copy-into .ensures, part-lent l (g .cell2 .result) (x .table .now), part-lent l (g .before .cell .result) (x .table .now), g .before .cell .ensures, g .cell2 .ensures)
 
 pub join-rows-spec : {M : Type 1} → statement M
 join-rows-spec =
@@ -116,7 +121,6 @@ join-rows-spec =
     sub-join-row
     part-join-row-start
     part-join-row-end
-    array-share-prefix-other
     slice-aggregate-join-row
     join-row-requires
     same-length

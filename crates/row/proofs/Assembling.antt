@@ -1,0 +1,143 @@
+-- The passes one after another leave a row of Products.
+-- Assumes nothing.
+use mathlib.Core.Path.{_≡_, sym, ap, ap₂, _∙_}
+use Prim.Native.Nat.{ℕ, suc, _+_, _-_, _*_, _/_, _%_, _<_, _≤_}
+use mathlib.Core.List.{List}
+use native.Mathlib.Omega.{arith}
+use native.Mathlib.Nat.{suc-mul, mul-le-mul-right, add-comm, mod-lt, mod-mod, mod-eq-of-lt, add-mul-mod-self-right}
+use lib.Bits.{bitXor}
+use lib.ListN.{length, getD, take, drop}
+use lib.Seq.{getD-take, getD-drop}
+use Rattle.field.specs.Field.{fieldOf, width}
+use Rattle.sharing.specs.Run.{before, pairs}
+use Rattle.sharing.specs.Rules.{drawAt, crossed, productOver, product}
+use Rattle.row.specs.Spread.{spreadAll}
+use Rattle.row.specs.Products.{term, allProducts}
+use Rattle.row.specs.Gather.{later, gathered, gatherAll}
+use Rattle.row.specs.Shares.{ownDraws, Below, Products}
+use Rattle.row.proofs.Streaming.{stream, stream-at, stream-next}
+use Rattle.row.proofs.Spreading.{spread-own, spread-pair, spread-none, spread-length}
+use Rattle.row.proofs.Producing.{products-at}
+use Rattle.row.proofs.TermLaw.{term-mul}
+use Rattle.row.proofs.Gathering.{gather-at}
+use Rattle.row.proofs.GatherLaw.{gathered-sum}
+use Rattle.row.proofs.Choices.{later-chosen, later-left}
+use Rattle.row.proofs.ShareLaw.{share-law}
+use Rattle.row.proofs.Cells.{in-block, byte-in-block, block-there, own-term, first-term, second-term}
+
+-- share s of a column, wherever the column stands
+share-of : (n x s : ℕ) → s < n → (x * n + s) % n ≡ s
+share-of n x s h = ap (λ (y : ℕ). y % n) (add-comm (x * n) s) ∙ add-mul-mod-self-right s x n ∙ mod-eq-of-lt h
+
+module _ (f n columns turns r j blocks e wide w : ℕ) (ds a row c m k : List ℕ)
+    (few : 1 ≤ n) (long : 1 ≤ r) (room : (width f - 1) * r + r ≤ length m) (fits : turns * n ≤ r)
+    (hj : 1 ≤ j) (again : j < turns) (he : 1 ≤ e)
+    (all-blocks : columns * n ≤ blocks * (j * n)) (blocks-in : blocks * (j * n) ≤ w)
+    (all-wide : columns * n ≤ wide * (e * n)) (wide-in : wide * (e * n) ≤ w)
+    (rows-in : n * w ≤ length c) (row-in : w ≤ length row)
+    (none : (o : ℕ) → getD c o 0 ≡ 0) (small : Below (fieldOf f .q) a) (shares : length a ≡ n)
+    (chooses : (d q : ℕ) → d < n → q < e * n → getD k (d * (e * n) + q) 0 ≡ later n d q)
+  where
+    unfoldable pub M : List ℕ
+    M = stream (width f) n turns r a m long room fits
+
+    unfoldable pub C : List ℕ
+    C = spreadAll n columns w ds c
+
+    unfoldable pub D : List ℕ
+    D = allProducts (width f) n (j * n) r blocks w row M C
+
+    unfoldable Z : ℕ → ℕ → ℕ
+    Z u x = getD ds (u * pairs n + x) 0
+
+    unfoldable entry : ℕ → List ℕ
+    entry u = take n (drop (u * n) row)
+
+    unfoldable P : ℕ → ℕ → ℕ → ℕ
+    P u = crossed (fieldOf f .mul) a (entry u)
+
+    -- what joins row d at share s of column u
+    unfoldable T : ℕ → ℕ → ℕ → ℕ
+    T u s d = term M r (width f) (u % j * n + s + n - d) (getD row (u * n + s) 0)
+
+    entry-at : (u s : ℕ) → s < n → getD (entry u) s 0 ≡ getD row (u * n + s) 0
+    unfolding entry
+    entry-at u s hs = getD-take n (drop (u * n) row) s 0 hs ∙ getD-drop (u * n) row s 0
+
+    single : (u s d i x : ℕ) → s < n → i < n → x < turns → u % j * n + s + n - d ≡ x * n + i → T u s d ≡ P u i s
+    unfolding T P M stream
+    single u s d i x hs hi hx g =
+        let l : suc x * n ≤ turns * n = mul-le-mul-right n hx in
+        ap (λ (y : ℕ). term M r (width f) y (getD row (u * n + s) 0)) g
+        ∙ term-mul f M r (x * n + i) (getD a i 0) (getD row (u * n + s) 0) (small .at i)
+        (stream-at (width f) n turns r a m long room fits x i hx hi)
+        (λ t ht. stream-next (width f) n turns r a m long room fits (x * n + i) t (omega (arith, suc-mul x n)) ht)
+        ∙ ap (fieldOf f .mul (getD a i 0)) (sym (entry-at u s hs))
+
+    inside : (u : ℕ) → u % j < turns
+    inside u = omega (arith, mod-lt u hj)
+
+    near : (u s d i : ℕ) → u < columns → s < n → i + d ≡ s → T u s d ≡ P u i s
+    near u s d i hu hs h =
+        single u s d i (suc (u % j)) hs (omega arith) (omega (arith, mod-lt u hj)) (omega (arith, suc-mul (u % j) n))
+
+    far : (u s d i : ℕ) → u < columns → s < n → s < d → d < n → i + d ≡ s + n → T u s d ≡ P u i s
+    far u s d i hu hs l hd h = single u s d i (u % j) hs (omega arith) (inside u) (omega arith)
+
+    columns-in : columns * n ≤ w
+    columns-in = omega arith
+
+    joins : (u s d : ℕ) → u < columns → s < n → d < n → getD D (d * w + (u * n + s)) 0 ≡ bitXor (getD C (d * w + (u * n + s)) 0) (T u s d)
+    unfolding D C T
+    joins u s d hu hs hd =
+        let g : u / j * (j * n) + (u % j * n + s) ≡ u * n + s = in-block n j u s in
+        let e : d * w + (u * n + s) ≡ d * w + (u / j * (j * n) + (u % j * n + s)) = omega arith in
+        ap (λ (y : ℕ). getD D y 0) e
+        ∙ products-at (width f) n (j * n) r blocks w row M C (omega (arith, spread-length n columns w ds c)) blocks-in
+        d (u / j) (u % j * n + s) hd (block-there n j u s columns blocks hj hs hu all-blocks) (byte-in-block n j u s hj hs)
+        ∙ ap₂ bitXor (ap (λ (y : ℕ). getD C y 0) (sym e))
+        (ap (λ (y : ℕ). term M r (width f) (u % j * n + s + n - d) (getD row y 0)) g)
+
+    pair : (u s d i : ℕ) → u < columns → s < n → 1 ≤ d → i + d ≡ s → getD C (d * w + (u * n + s)) 0 ≡ Z u (before n i + (d - 1))
+    unfolding C Z
+    pair u s d i hu hs l h =
+        let e : s - d ≡ i = omega arith in
+        spread-pair n columns w ds c rows-in columns-in none u s d hu hs l (omega arith)
+        ∙ ap (λ (y : ℕ). getD ds (u * pairs n + (before n y + (d - 1))) 0) e
+
+    own : (u s : ℕ) → u < columns → s < n → getD C (u * n + s) 0 ≡ ownDraws n (Z u) s
+    unfolding C Z
+    own = spread-own n columns w ds c rows-in columns-in none
+
+    nothing : (u s d : ℕ) → u < columns → s < n → s < d → d < n → getD C (d * w + (u * n + s)) 0 ≡ 0
+    unfolding C
+    nothing u s d hu hs l hd = spread-none n columns w ds c rows-in columns-in none u s d hu l hd
+
+    -- a byte of the gathered row
+    byte : (u s : ℕ) → u < columns → s < n → getD (gatherAll n (e * n) wide w D k row) (u * n + s) 0 ≡ gathered n (e * n) w D k (u * n + s) (u % e * n + s)
+    byte u s hu hs =
+        let g : u / e * (e * n) + (u % e * n + s) ≡ u * n + s = in-block n e u s in
+        ap (λ (y : ℕ). getD (gatherAll n (e * n) wide w D k row) y 0) (sym g)
+        ∙ gather-at n (e * n) wide w D k row (omega arith) (u / e) (u % e * n + s)
+        (block-there n e u s columns wide he hs hu all-wide) (byte-in-block n e u s he hs)
+        ∙ ap (λ (y : ℕ). gathered n (e * n) w D k y (u % e * n + s)) g
+
+    pub passes-products : Products (fieldOf f) n columns ds a row (gatherAll n (e * n) wide w D k row)
+    unfolding product Z P entry
+    passes-products =
+        record {
+          at = λ u s hu hs.
+              let q : ℕ = u % e * n + s in
+              let which : q % n ≡ s = share-of n (u % e) s hs in
+              let there : q < e * n = byte-in-block n e u s he hs in
+              ap (λ (y : ℕ). y % fieldOf f .q) (byte u s hu hs)
+              ∙ gathered-sum f n (e * n) w D k (u * n + s) q s (Z u) (P u) hs
+              (own-term n w columns C D Z P T own pair nothing joins near far u s hu hs)
+              (λ i hi. first-term n w columns C D Z P T own pair nothing joins near far u s i hu hs hi)
+              (λ i hi. second-term n w columns C D Z P T own pair nothing joins near far u s i hu hs hi)
+              (λ d l g. chooses d q (omega arith) there ∙ later-chosen n d q l (omega arith))
+              (λ d l g. chooses d q g there ∙ later-left n d q (omega arith))
+              ∙ share-law f n (drawAt (fieldOf f) (drop (u * pairs n) ds)) (Z u) (P u)
+              (λ x h. ap (λ (y : ℕ). y % fieldOf f .q) (sym (getD-drop (u * pairs n) ds x 0)) ∙ sym (mod-mod _ (fieldOf f .q))) s hs
+              ∙ ap (λ (y : ℕ). getD (productOver (fieldOf f) (drawAt (fieldOf f) (drop (u * pairs n) ds)) (P u) y) s 0 % fieldOf f .q) (sym shares);
+        }

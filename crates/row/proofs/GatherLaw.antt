@@ -1,0 +1,87 @@
+-- What `gather` leaves of a byte is what the share comes to, modulo q: the pairs that are left out change nothing, and the others come in their order.
+-- Assumes nothing.
+use mathlib.Core.Path.{_≡_, refl, sym, ap, ap₂, _∙_}
+use mathlib.Core.Bool.{Bool, true, false}
+use Prim.Native.Nat.{ℕ, suc, _+_, _-_, _*_, _%_, _<_, _≤_}
+use mathlib.Core.List.{List}
+use native.Mathlib.Omega.{arith}
+use native.Mathlib.Decide.{decLt}
+use native.Mathlib.Nat.{mod-mod}
+use lib.Bits.{bitXor, bitAnd, and-mask, and-zero-r, xor-mod, xor-zero-r}
+use lib.Dec.{eqb}
+use lib.ListN.{getD}
+use Rattle.field.specs.Field.{pick, fieldOf, F16, F256}
+use Rattle.sharing.specs.Run.{run, before}
+use Rattle.sharing.proofs.Pairs.{run-holds}
+use Rattle.row.specs.Gather.{gatherTurn, gathered}
+use Rattle.row.specs.Shares.{ownDraws, pairSum, shareSum}
+
+-- ---- exclusive or, modulo q
+
+xors : (t : Bool) (a b c d : ℕ) → a % pick t F16 F256 .q ≡ c % pick t F16 F256 .q → b % pick t F16 F256 .q ≡ d % pick t F16 F256 .q
+    → bitXor a b % pick t F16 F256 .q ≡ bitXor c d % pick t F16 F256 .q
+unfolding F16 F256
+xors true a b c d x y = xor-mod a b 4 ∙ ap₂ bitXor x y ∙ sym (xor-mod c d 4)
+xors false a b c d x y = xor-mod a b 8 ∙ ap₂ bitXor x y ∙ sym (xor-mod c d 8)
+
+bytes : (t : Bool) (a : ℕ) → bitAnd a 255 % pick t F16 F256 .q ≡ a % pick t F16 F256 .q
+unfolding F16 F256
+bytes true a = ap (λ (x : ℕ). x % 16) (and-mask a 8) ∙ omega arith
+bytes false a = ap (λ (x : ℕ). x % 256) (and-mask a 8) ∙ mod-mod a 256
+
+module _ (f : ℕ) where
+  -- it respects what its sides leave
+  pub xor-same : (a b c d : ℕ) → a % fieldOf f .q ≡ c % fieldOf f .q → b % fieldOf f .q ≡ d % fieldOf f .q
+      → bitXor a b % fieldOf f .q ≡ bitXor c d % fieldOf f .q
+  unfolding fieldOf
+  xor-same = xors (eqb f 16)
+
+  -- a byte of ones chooses all of the other
+  byte-same : (a : ℕ) → bitAnd a 255 % fieldOf f .q ≡ a % fieldOf f .q
+  unfolding fieldOf
+  byte-same = bytes (eqb f 16)
+
+  module _ (n l w : ℕ) (c k : List ℕ) (o q s : ℕ) (Z : ℕ → ℕ) (P : ℕ → ℕ → ℕ) (hs : s < n)
+      (own : getD c o 0 ≡ bitXor (ownDraws n Z s) (P s s))
+      (first : (i : ℕ) → i < s → getD c ((s - i) * w + o) 0 ≡ bitXor (Z (before n i + (s - suc i))) (P i s))
+      (second : (i : ℕ) → i < s → getD c ((n - (s - i)) * w + o - (s - i)) 0 ≡ P s i)
+      (chosen : (d : ℕ) → 1 ≤ d → d ≤ s → getD k (d * l + q) 0 ≡ 255)
+      (left : (d : ℕ) → s < d → d < n → getD k (d * l + q) 0 ≡ 0)
+    where
+      -- the first j pairs
+      sums : ℕ → ℕ
+      sums j = run (λ i x. bitXor x (pairSum n Z P s i)) j (getD c o 0)
+
+      -- the first turns are left out, and turn n - 1 - s + j is pair j
+      out : (i v : ℕ) → i < n - 1 - s → gatherTurn n l w c k o q i v ≡ v
+      unfolding gatherTurn
+      out i v h = rw (left (n - 1 - i) (omega arith) (omega arith), and-zero-r) (xor-zero-r v)
+
+      taken : (i j v : ℕ) → j < s → i ≡ n - 1 - s + j → gatherTurn n l w c k o q i v ≡ bitXor v (bitAnd (pairSum n Z P s j) 255)
+      unfolding gatherTurn pairSum
+      taken i j v h e =
+          let d : n - 1 - i ≡ s - j = omega arith in
+          let g : i + 1 ≡ n - (s - j) = omega arith in
+          rw (d, g, first j h, second j h, chosen (s - j) (omega arith) (omega arith)) refl
+
+      turn : (i v : ℕ) → i < n - 1 → v % fieldOf f .q ≡ sums (i - (n - 1 - s)) % fieldOf f .q
+          → gatherTurn n l w c k o q i v % fieldOf f .q ≡ sums (suc i - (n - 1 - s)) % fieldOf f .q
+      unfolding run sums
+      turn i v h r = elim (decLt i (n - 1 - s)) [
+        | yes b ↦
+            let e : suc i - (n - 1 - s) ≡ i - (n - 1 - s) = omega arith in
+            rw (out i v b, e) r
+        | no b ↦
+            let j : ℕ = i - (n - 1 - s) in
+            let e : suc i - (n - 1 - s) ≡ suc j = omega arith in
+            rw (taken i j v (omega arith) (omega arith), e) (xor-same v _ _ _ r (byte-same (pairSum n Z P s j)))
+      ]
+
+      pub gathered-sum : gathered n l w c k o q % fieldOf f .q ≡ shareSum n Z P s % fieldOf f .q
+      unfolding gathered shareSum sums run
+      gathered-sum =
+          let e : n - 1 - (n - 1 - s) ≡ s = omega arith in
+          let z : 0 - (n - 1 - s) ≡ 0 = omega arith in
+          rw e at (run-holds (λ (i v : ℕ). v % fieldOf f .q ≡ sums (i - (n - 1 - s)) % fieldOf f .q) (gatherTurn n l w c k o q) (n - 1)
+          (λ i h v r. turn i v h r) (getD c o 0) (rw z refl))
+          ∙ ap (λ (v : ℕ). run (λ i x. bitXor x (pairSum n Z P s i)) s v % fieldOf f .q) own

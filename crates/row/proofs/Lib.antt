@@ -1,0 +1,13 @@
+pub mod Streaming
+pub mod Cells
+pub mod Gathering
+pub mod GatherLaw
+pub mod Choices
+pub mod Producing
+pub mod TermLaw
+pub mod OneTurn
+pub mod Spreading
+pub mod ShareLaw
+pub mod Assembling
+pub mod Filling
+pub mod Reducing

@@ -1,0 +1,108 @@
+-- What `products` leaves at row d, below byte o of the row: what stood there, joined by the byte's product with one share of the factor.
+-- Assumes nothing.
+use mathlib.Core.Path.{_≡_, refl, ap, _∙_}
+use Prim.Native.Nat.{ℕ, suc, _+_, _-_, _*_, _<_, _≤_}
+use mathlib.Core.List.{List}
+use native.Mathlib.Omega.{arith}
+use native.Mathlib.Decide.{ℕ-discrete, decLt}
+use native.Mathlib.Nat.{suc-mul, mul-le-mul-right, le-refl}
+use lib.Bits.{bitXor}
+use lib.ListN.{length, getD, length-set}
+use lib.Seq.{getD-set-same, getD-set-other}
+use Rattle.sharing.proofs.Loops.{taken-room}
+use Rattle.sharing.proofs.Pairs.{run-holds}
+use Rattle.row.specs.Products.{term, byteTurn, byteProducts, productTurn, blockProducts, allProducts}
+
+-- a place is in one row
+same-row : (w d o e p : ℕ) → o < w → p < w → d * w + o ≡ e * w + p → d ≡ e
+same-row w d o e p ho hp h = elim (decLt d e) [
+  | yes g ↦ absurd (omega (arith, suc-mul d w, mul-le-mul-right w g))
+  | no g ↦ elim (decLt e d) [
+    | yes k ↦ absurd (omega (arith, suc-mul e w, mul-le-mul-right w k))
+    | no k ↦ omega arith
+  ]
+]
+
+-- and at one place of it
+same-place : (w d o e p : ℕ) → o < w → p < w → d * w + o ≡ e * w + p → o ≡ p
+same-place w d o e p ho hp h =
+    omega (arith, ap (λ (x : ℕ). x * w) (same-row w d o e p ho hp h))
+
+place-in : (w n d o : ℕ) → d < n → o < w → d * w + o < n * w
+place-in w n d o hd ho =
+    let h : d * w + w ≤ n * w = taken-room (d * w) d w n refl hd (le-refl _) in omega arith
+
+-- ---- a byte
+
+module _ (width n r w : ℕ) (m : List ℕ) (y o q : ℕ) (c : List ℕ) (lc : n * w ≤ length c) (ho : o < w) where
+  -- after k rows
+  record Rows (k : ℕ) (s : List ℕ) : Type 0 where
+    size : n * w ≤ length s
+    done : (d : ℕ) → d < k → getD s (d * w + o) 0 ≡ bitXor (getD c (d * w + o) 0) (term m r width (q + n - d) y)
+    left : (d p : ℕ) → p < w → (p ≡ o → k ≤ d) → getD s (d * w + p) 0 ≡ getD c (d * w + p) 0
+
+  rows-next : (k : ℕ) → k < n → (s : List ℕ) → Rows k s → Rows (suc k) (byteTurn width n r w m y o q k s)
+  unfolding byteTurn
+  rows-next k hk s D =
+      record {
+        size = simp length-set (D .size);
+        done = λ d hd. elim (ℕ-discrete d k) [
+          | yes z ↦ rw z (getD-set-same s (k * w + o) _ 0 (omega (arith, D .size, place-in w n k o hk ho))
+              ∙ ap (λ (x : ℕ). bitXor x (term m r width (q + n - k) y)) (D .left k o ho (λ e. le-refl k)))
+          | no z ↦ getD-set-other s (k * w + o) (d * w + o) _ 0 (λ e. z (same-row w d o k o ho ho e)) ∙ D .done d (omega arith)
+        ];
+        left = λ d p hp f. getD-set-other s (k * w + o) (d * w + p) _ 0
+            (λ e. omega (arith, same-row w d p k o hp ho e, f (same-place w d p k o hp ho e)))
+            ∙ D .left d p hp (λ e. omega (arith, f e));
+      }
+
+  rows : Rows n (byteProducts width n r w m y o q c)
+  unfolding byteProducts
+  rows =
+      run-holds Rows (byteTurn width n r w m y o q) n rows-next c
+      (record { size = lc; done = λ d hd. absurd (omega arith); left = λ d p hp f. refl })
+
+-- ---- the row
+
+module _ (width n l r blocks w : ℕ) (b m c : List ℕ) (lc : n * w ≤ length c) (hw : blocks * l ≤ w) where
+  -- after k bytes
+  record Bytes (k : ℕ) (s : List ℕ) : Type 0 where
+    size : n * w ≤ length s
+    done : (d u q : ℕ) → d < n → u < blocks → q < l → u * l + q < k
+        → getD s (d * w + (u * l + q)) 0 ≡ bitXor (getD c (d * w + (u * l + q)) 0) (term m r width (q + n - d) (getD b (u * l + q) 0))
+    left : (d o : ℕ) → o < w → k ≤ o → getD s (d * w + o) 0 ≡ getD c (d * w + o) 0
+
+  bytes-next : (u q : ℕ) → u < blocks → q < l → (k : ℕ) → k ≡ suc (u * l + q) → (s : List ℕ) → Bytes (u * l + q) s
+      → Bytes k (productTurn width n r w b m (u * l) q s)
+  bytes-next u q hu hq k e s D =
+      let ho : u * l + q < w = omega (arith, place-in l blocks u q hu hq) in
+      let R = rows width n r w m (getD b (u * l + q) 0) (u * l + q) q s (D .size) ho in
+      record {
+        size = R .size;
+        done = λ d v t hd hv ht h. elim (ℕ-discrete (v * l + t) (u * l + q)) [
+          | yes z ↦
+              let x : v ≡ u = same-row l v t u q ht hq z in
+              let y : t ≡ q = same-place l v t u q ht hq z in
+              rw (x, y) (R .done d hd ∙ ap (λ (x : ℕ). bitXor x (term m r width (q + n - d) (getD b (u * l + q) 0))) (D .left d (u * l + q) ho (le-refl _)))
+          | no z ↦ R .left d (v * l + t) (omega (arith, place-in l blocks v t hv ht)) (λ g. absurd (z g)) ∙ D .done d v t hd hv ht (omega arith)
+        ];
+        left = λ d p hp h. R .left d p hp (λ g. absurd (omega arith)) ∙ D .left d p hp (omega arith);
+      }
+
+  bytes : Bytes (blocks * l) (allProducts width n l r blocks w b m c)
+  unfolding allProducts blockProducts
+  bytes =
+      run-holds (λ (u : ℕ) (s : List ℕ). Bytes (u * l) s) (blockProducts width n l r w b m) blocks
+      (λ u hu s D.
+      let e : suc u * l ≡ u * l + l = suc-mul u l in
+      rw e
+      (run-holds (λ (q : ℕ) (t : List ℕ). Bytes (u * l + q) t) (productTurn width n r w b m (u * l)) l
+      (λ q hq t D. bytes-next u q hu hq (u * l + suc q) (omega arith) t D) s
+      (let z : u * l + 0 ≡ u * l = omega arith in rw z D)))
+      c
+      (record { size = lc; done = λ d u q hd hu hq h. absurd (omega arith); left = λ d o ho h. refl })
+
+  pub products-at : (d u q : ℕ) → d < n → u < blocks → q < l
+      → getD (allProducts width n l r blocks w b m c) (d * w + (u * l + q)) 0
+      ≡ bitXor (getD c (d * w + (u * l + q)) 0) (term m r width (q + n - d) (getD b (u * l + q) 0))
+  products-at d u q hd hu hq = bytes .done d u q hd hu hq (place-in l blocks u q hu hq)

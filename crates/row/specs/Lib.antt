@@ -1,0 +1,6 @@
+pub mod Places
+pub mod Spread
+pub mod Streams
+pub mod Products
+pub mod Gather
+pub mod Shares

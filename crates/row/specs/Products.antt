@@ -1,0 +1,30 @@
+-- Each byte of the row, times each share of the factor, joins one of the n rows of w bytes.
+-- Assumes nothing.
+use Prim.Native.Nat.{ℕ, zero, suc, _+_, _-_, _*_, _/_, _%_}
+use mathlib.Core.List.{List}
+use lib.Bits.{bitXor}
+use lib.ListN.{getD}
+use Rattle.sharing.specs.Run.{run}
+use Rattle.row.specs.Places.{xorAt}
+
+-- y times what stands at g of m, whose doubles stand r places on, and so on for k bits of y
+unfoldable pub term : List ℕ → ℕ → ℕ → ℕ → ℕ → ℕ
+term m r zero g y = 0
+term m r (suc k) g y = bitXor (y % 2 * getD m g 0) (term m r k (g + r) (y / 2))
+
+-- byte o of the row, y, which is byte q of its block: row d takes its product with the share that stands d places before it
+unfoldable pub byteTurn : ℕ → ℕ → ℕ → ℕ → List ℕ → ℕ → ℕ → ℕ → ℕ → List ℕ → List ℕ
+byteTurn width n r w m y o q d c = xorAt (d * w + o) (term m r width (q + n - d) y) c
+
+unfoldable pub byteProducts : ℕ → ℕ → ℕ → ℕ → List ℕ → ℕ → ℕ → ℕ → List ℕ → List ℕ
+byteProducts width n r w m y o q c = run (byteTurn width n r w m y o q) n c
+
+-- byte q of the block that begins at `at`
+abbrev pub productTurn : ℕ → ℕ → ℕ → ℕ → List ℕ → List ℕ → ℕ → ℕ → List ℕ → List ℕ
+productTurn width n r w b m at q c = byteProducts width n r w m (getD b (at + q) 0) (at + q) q c
+
+unfoldable pub blockProducts : ℕ → ℕ → ℕ → ℕ → ℕ → List ℕ → List ℕ → ℕ → List ℕ → List ℕ
+blockProducts width n l r w b m u c = run (productTurn width n r w b m (u * l)) l c
+
+unfoldable pub allProducts : ℕ → ℕ → ℕ → ℕ → ℕ → ℕ → List ℕ → List ℕ → List ℕ → List ℕ
+allProducts width n l r blocks w b m c = run (blockProducts width n l r w b m) blocks c

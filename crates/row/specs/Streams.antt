@@ -1,0 +1,31 @@
+-- The factor's shares, over and over, and below them their doubles, the doubles of these, and so on: with them a product is a choice for
+-- each bit of the other byte.
+-- Assumes nothing.
+use Prim.Native.Nat.{ℕ, _+_, _-_, _*_, _/_, _%_}
+use mathlib.Core.List.{List}
+use lib.Bits.{bitXor}
+use lib.Dec.{eqb}
+use lib.ListN.{getD, set}
+use Rattle.field.specs.Field.{pick}
+use Rattle.sharing.specs.Run.{run}
+
+-- x·a in the field of width bits (4 or 8)
+unfoldable pub doubled : ℕ → ℕ → ℕ
+doubled width a =
+    pick (eqb width 4) (bitXor (a * 2 % 16) (a / 8 % 2 * 3)) (bitXor (a * 2 % 256) (a / 128 % 2 * 27))
+
+abbrev pub onceTurn : List ℕ → ℕ → ℕ → List ℕ → List ℕ
+onceTurn a at s m = set m (at + s) (getD a s 0)
+
+unfoldable pub repeatTurn : ℕ → List ℕ → ℕ → List ℕ → List ℕ
+repeatTurn n a u m = run (onceTurn a (u * n)) n m
+
+unfoldable pub repeated : ℕ → ℕ → List ℕ → List ℕ → List ℕ
+repeated n turns a m = run (repeatTurn n a) turns m
+
+-- byte q doubled, r places on
+unfoldable pub doubleTurn : ℕ → ℕ → ℕ → List ℕ → List ℕ
+doubleTurn width r q m = set m (q + r) (doubled width (getD m q 0))
+
+unfoldable pub doubledRows : ℕ → ℕ → List ℕ → List ℕ
+doubledRows width r m = run (doubleTurn width r) ((width - 1) * r) m
