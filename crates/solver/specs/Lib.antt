@@ -2,3 +2,4 @@ pub mod Told
 pub mod Refusals
 pub mod Calls
 pub mod Verdicts
+pub mod Scan

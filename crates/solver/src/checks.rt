@@ -7,6 +7,7 @@ ghost use Rattle.course.specs.StepList.{Sizes, inList, maskCost, nonzeroCost};
 ghost use Rattle.solver.specs.Told.{when, passed, refused, _or_};
 ghost use Rattle.solver.specs.Refusals.{paper, outside, firstPlace, tooLarge, zeroDraw, placed, ended, entries, wholeTable, dealDraws, maskAt, nonzeroAt, zeroPivotOf, columnOf, no1, no6, no7, no9, no12, sizes, buffers, dealOrder, gatherOrder, tapes, solveOrder, placing, lending, stepOrder};
 ghost use Rattle.solver.specs.Verdicts.{told};
+ghost use Rattle.solver.specs.Scan.{someBits};
 use super::Refusal;
 use course::Order;
 use course::Place;
@@ -77,9 +78,26 @@ fn is_zero_draw(f: u64, x: u8) -> bool
     field::draw(f, x) == 0
 }
 
+// The bits that some byte has: below 16 where each byte is. Every call looks at the whole table, and here the compiler takes many bytes at
+// once.
+fn some_bits(s: &[u8]) -> u8
+    ensures { λ r. ⌜ r ≡ someBits (now (s .entry)) ⌝ }
+{
+    let mut v: u8 = 0;
+    for i in 0..s.len() {
+        v |= s[i];
+    }
+    v
+}
+
 fn first_too_large(f: u64, s: &[u8]) -> usize
     ensures { λ r. ⌜ r ≡ firstPlace (tooLarge f) (now (s .entry)) ⌝ }
 {
+    if f == 16 {
+        if some_bits(s) < 16 {
+            return s.len();
+        }
+    }
     let mut i = 0;
     while i < s.len() {
         if is_too_large(f, s[i]) {
