@@ -1,0 +1,3 @@
+# order: Scale adds two shares of the pivot
+s/    get(t, n, j, j, a);/&\
+    __asm__ volatile("" : : "r"(a[0] ^ a[1]));/

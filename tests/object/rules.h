@@ -1,0 +1,36 @@
+/* The small rules of 01 that a step follows, with the values that they work on. */
+#ifndef RULES_H
+#define RULES_H
+
+#include <stdbool.h>
+#include <stddef.h>
+#include <stdint.h>
+
+typedef struct {
+    uint64_t field, n, m;
+} sizes;
+
+typedef enum {
+    PRODUCT, /* target += Product(a, b) */
+    AND,     /* And(a, b) */
+    REFRESH, /* of a; in Scale a is b times a factor */
+    OPENING, /* of a */
+    LIFT,    /* Open: target += a, and a is b times the unknown */
+} rule_kind;
+
+typedef struct {
+    rule_kind kind;
+    unsigned number; /* among those of its kind in the step, from 1 */
+    unsigned bits;   /* elements are looked at whole if 0, else that many low bits of them, one by one */
+    char opened;     /* 'a': what is made here of a is opened, 'b': the value of b is, 0: neither */
+    uint8_t a[4], b[4], target[4];
+    uint8_t z[6]; /* the draws: one to each pair of shares, in Refresh to the pairs of the first share */
+} rule;
+
+/* Those of the step that a record stands at, before it is done. Returns how many; at
+ * most MAX_RULES. */
+#define MAX_RULES 400
+size_t rules_of(const sizes *s, const uint64_t *record, const uint8_t *table, const uint8_t *mask,
+                const uint8_t *nonzero, rule *out);
+
+#endif
