@@ -1,0 +1,16 @@
+/* The masked solve with additions in the paper's order. HOLD keeps it: after it
+ * the compiler knows nothing of how v came about, so it can't move a term from
+ * before to after it. */
+#if defined __x86_64__
+#define HOLD(v) __asm__("" : "+x"(v))
+#else
+#define HOLD(v) __asm__("" : "+w"(v)) /* Arm, to try it there */
+#endif
+#define HOLD_BYTE(v) __asm__("" : "+r"(v))
+#include "rows.h"
+
+uint64_t ordered_solve(uint64_t field, uint64_t shares, uint64_t size, uint8_t *table, uint8_t *solution,
+                       const uint8_t *mask, const uint8_t *nonzero, uint64_t answer[4])
+{
+    return solve_rows(field, shares, size, table, solution, mask, nonzero, answer);
+}

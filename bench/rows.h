@@ -1,0 +1,319 @@
+/* The masked solve, a row at a time, for best.c and ordered.c. Before it is
+ * included, HOLD(v) for vectors and HOLD_BYTE(v) say what keeps the compiler from
+ * merging the value v with what is added to it later.
+ *
+ * Shares are kept in planes: share s of a row's entries stand side by side. Rows,
+ * columns and shares are numbered from 0 here. */
+#include "solves.h"
+#include "vec.h"
+
+#include "hostozaro.h"
+
+#include <stdbool.h>
+
+typedef uint8_t planes[4][STRIDE];
+
+typedef struct {
+    size_t m;
+    planes *row;
+    const uint8_t *mask, *nonzero; /* the next draws */
+} work;
+
+/* ---- Draws ---- */
+
+INLINE uint8_t draw(unsigned w, const uint8_t **tape)
+{
+    return *(*tape)++ & (uint8_t)((1u << w) - 1);
+}
+
+INLINE vec low_with_low(vec a, vec b)
+{
+    return __builtin_shuffle(a, b, (vec){0, 16, 1, 17, 2, 18, 3, 19, 4, 20, 5, 21, 6, 22, 7, 23});
+}
+
+INLINE vec high_half(vec a)
+{
+    return __builtin_shuffle(a, (vec){8, 9, 10, 11, 12, 13, 14, 15, 8, 9, 10, 11, 12, 13, 14, 15});
+}
+
+/* 32 bytes dealt out in twos. */
+INLINE void split_2(vec a, vec b, vec *even, vec *odd)
+{
+    *even = __builtin_shuffle(a, b, (vec){0, 2, 4, 6, 8, 10, 12, 14, 16, 18, 20, 22, 24, 26, 28, 30});
+    *odd = __builtin_shuffle(a, b, (vec){1, 3, 5, 7, 9, 11, 13, 15, 17, 19, 21, 23, 25, 27, 29, 31});
+}
+
+/* 48 bytes dealt out in threes. */
+INLINE void split_3(vec *a, vec *b, vec *c)
+{
+    for (int round = 0; round < 4; round++) {
+        vec x = low_with_low(*a, high_half(*b));
+        vec y = low_with_low(high_half(*a), *c);
+        vec z = low_with_low(*b, high_half(*c));
+        *a = x;
+        *b = y;
+        *c = z;
+    }
+}
+
+/* The draws of sixteen columns, `each` to a column, into a vector for each draw of
+ * a column. Where fewer columns are left no byte after their draws is read. */
+INLINE void draw_columns(unsigned w, unsigned each, const uint8_t *tape, size_t columns, vec z[6])
+{
+    uint8_t rest[6 * 16];
+    if (columns < 16) {
+        memcpy(rest, tape, columns * each);
+        memset(rest + columns * each, 0, (16 - columns) * each);
+        tape = rest;
+    }
+    vec v[6];
+    for (unsigned i = 0; i < each; i++)
+        v[i] = load(tape + 16 * i) & all((1u << w) - 1);
+    if (each % 2 == 0) {
+        vec even[3], odd[3];
+        for (unsigned i = 0; i < each / 2; i++)
+            split_2(v[2 * i], v[2 * i + 1], &even[i], &odd[i]);
+        if (each == 6) {
+            split_3(&even[0], &even[1], &even[2]);
+            split_3(&odd[0], &odd[1], &odd[2]);
+        }
+        for (unsigned i = 0; i < each / 2; i++) {
+            z[2 * i] = even[i];
+            z[2 * i + 1] = odd[i];
+        }
+    } else {
+        if (each == 3)
+            split_3(&v[0], &v[1], &v[2]);
+        for (unsigned i = 0; i < each; i++)
+            z[i] = v[i];
+    }
+}
+
+/* ---- One entry ---- */
+
+INLINE void get(const work *t, unsigned n, size_t r, size_t c, uint8_t a[4])
+{
+    for (unsigned s = 0; s < n; s++)
+        a[s] = t->row[r][s][c];
+}
+
+INLINE void refresh(work *t, unsigned w, unsigned n, uint8_t a[4])
+{
+    for (unsigned s = 1; s < n; s++) {
+        uint8_t r = draw(w, &t->mask);
+        a[s] ^= r;
+        a[0] ^= r;
+    }
+}
+
+INLINE uint8_t opening(work *t, unsigned w, unsigned n, uint8_t a[4])
+{
+    for (unsigned i = 0; i < n; i++)
+        for (unsigned j = i + 1; j < n; j++) {
+            uint8_t r = draw(w, &t->mask);
+            a[i] ^= r;
+            HOLD_BYTE(a[i]);
+            a[j] ^= r;
+            HOLD_BYTE(a[j]);
+        }
+    uint8_t sum = a[0];
+    for (unsigned s = 1; s < n; s++)
+        sum ^= a[s];
+    return sum;
+}
+
+/* a becomes the sharing of 1 where its value is 0, else of 0. */
+INLINE void zero_flag(work *t, unsigned w, unsigned n, uint8_t a[4])
+{
+    a[0] ^= (uint8_t)((1u << w) - 1);
+    for (unsigned h = w / 2; h >= 1; h /= 2) {
+        uint8_t b[4], out[4];
+        for (unsigned s = 0; s < n; s++)
+            b[s] = a[s] >> h;
+        refresh(t, w, n, b);
+        for (unsigned s = 0; s < n; s++)
+            out[s] = a[s] & b[s];
+        for (unsigned i = 0; i < n; i++)
+            for (unsigned j = i + 1; j < n; j++) {
+                uint8_t z = draw(w, &t->mask), z2 = (a[i] & b[j]) ^ z;
+                HOLD_BYTE(z2);
+                z2 ^= a[j] & b[i];
+                HOLD_BYTE(z2);
+                out[i] ^= z;
+                out[j] ^= z2;
+            }
+        memcpy(a, out, n);
+    }
+    for (unsigned s = 0; s < n; s++)
+        a[s] &= 1;
+}
+
+/* ---- Rows ---- */
+
+/* Row `to` += Product(a, row `from`), columns first..m. A product is made of the
+ * bits of row `from`, so each bit is looked at once for all shares of a. The
+ * shares of the row are taken from the last: then a_i·b_j with i < j is there
+ * before a_j·b_i. */
+INLINE void add_product(work *t, unsigned w, unsigned n, size_t to, const uint8_t a[4], size_t from, size_t first)
+{
+    unsigned pairs = n * (n - 1) / 2;
+    const size_t end = t->m + 1; /* copies: a store of bytes could change *t, for all that gcc knows */
+    const uint8_t *mask = t->mask;
+    uint8_t(*const target)[STRIDE] = t->row[to];
+    uint8_t(*const source)[STRIDE] = t->row[from];
+    vec of_a[4][8];
+    for (unsigned i = 0; i < n; i++)
+        multiples(w, a[i], of_a[i]);
+    for (size_t c = first; c < end; c += 16) {
+        size_t left = end - c < 16 ? end - c : 16;
+        vec z[6], cross[4][4], out[4];
+        draw_columns(w, pairs, mask, left, z);
+        mask += pairs * left;
+        for (unsigned s = n; s-- > 0;) {
+            vec b = load(source[s] + c), by[4] = {{0}};
+            for (unsigned bit = 0; bit < w; bit++) {
+                vec chosen = where_bit(b, bit);
+                for (unsigned i = 0; i < n; i++)
+                    by[i] ^= chosen & of_a[i][bit];
+            }
+            for (unsigned i = 0; i < s; i++) {
+                cross[i][s] = by[i] ^ z[i * (2 * n - i - 1) / 2 + s - i - 1];
+                HOLD(cross[i][s]);
+            }
+            out[s] = by[s];
+            for (unsigned i = s + 1; i < n; i++) {
+                cross[s][i] ^= by[i];
+                HOLD(cross[s][i]);
+            }
+        }
+        for (unsigned i = 0, p = 0; i < n; i++)
+            for (unsigned j = i + 1; j < n; j++, p++) {
+                out[i] ^= z[p];
+                out[j] ^= cross[i][j];
+            }
+        for (unsigned s = 0; s < n; s++) {
+            vec sum = out[s];
+            HOLD(sum);
+            store(target[s] + c, load(target[s] + c) ^ sum);
+        }
+    }
+    t->mask = mask;
+}
+
+INLINE void mix(work *t, unsigned w, unsigned n, size_t j, size_t k)
+{
+    uint8_t flag[4];
+    get(t, n, j, j, flag);
+    zero_flag(t, w, n, flag);
+    add_product(t, w, n, j, flag, k, j);
+}
+
+INLINE bool check_stops(work *t, unsigned w, unsigned n, size_t j)
+{
+    uint8_t flag[4];
+    get(t, n, j, j, flag);
+    zero_flag(t, w, n, flag);
+    return opening(t, w, n, flag) == 1;
+}
+
+INLINE void scale(work *t, unsigned w, unsigned n, size_t j)
+{
+    uint8_t a[4], factors[4];
+    get(t, n, j, j, a);
+    for (unsigned i = 0; i + 1 < n; i++) {
+        factors[i] = draw(w, &t->nonzero);
+        for (unsigned s = 0; s < n; s++)
+            a[s] = times(w, a[s], factors[i]);
+        refresh(t, w, n, a);
+    }
+    factors[n - 1] = inverse(w, opening(t, w, n, a));
+    for (unsigned i = 0; i < n; i++) {
+        vec of_factor[8];
+        multiples(w, factors[i], of_factor);
+        for (size_t c = j; c <= t->m; c += 16) {
+            size_t left = t->m + 1 - c < 16 ? t->m + 1 - c : 16;
+            vec r[6], first = times_vec(w, of_factor, load(t->row[j][0] + c));
+            draw_columns(w, n - 1, t->mask, left, r);
+            t->mask += (n - 1) * left;
+            for (unsigned s = 1; s < n; s++) {
+                first ^= r[s - 1];
+                store(t->row[j][s] + c, times_vec(w, of_factor, load(t->row[j][s] + c)) ^ r[s - 1]);
+            }
+            store(t->row[j][0] + c, first);
+        }
+    }
+}
+
+INLINE void clear(work *t, unsigned w, unsigned n, size_t j, size_t k)
+{
+    uint8_t copy[4];
+    get(t, n, k, j, copy);
+    add_product(t, w, n, k, copy, j, j);
+}
+
+INLINE uint8_t open_unknown(work *t, unsigned w, unsigned n, size_t j)
+{
+    uint8_t a[4];
+    get(t, n, j, t->m, a);
+    uint8_t x = opening(t, w, n, a);
+    for (size_t k = 0; k < j; k++)
+        for (unsigned s = 0; s < n; s++)
+            t->row[k][s][t->m] ^= times(w, x, t->row[k][s][j]);
+    return x;
+}
+
+/* The step list. Returns the column that stopped it, from 1, or 0. */
+INLINE size_t run_list(work *t, unsigned w, unsigned n, uint8_t *solution)
+{
+    for (size_t j = 0; j < t->m; j++) {
+        for (size_t k = j + 1; k < t->m; k++)
+            mix(t, w, n, j, k);
+        if (check_stops(t, w, n, j))
+            return j + 1;
+        scale(t, w, n, j);
+        for (size_t k = j + 1; k < t->m; k++)
+            clear(t, w, n, j, k);
+    }
+    for (size_t j = t->m; j-- > 0;)
+        solution[j] = open_unknown(t, w, n, j);
+    return 0;
+}
+
+/* One copy of the code for each field and number of shares. */
+static size_t run_16_2(work *t, uint8_t *solution) { return run_list(t, 4, 2, solution); }
+static size_t run_16_3(work *t, uint8_t *solution) { return run_list(t, 4, 3, solution); }
+static size_t run_16_4(work *t, uint8_t *solution) { return run_list(t, 4, 4, solution); }
+static size_t run_256_2(work *t, uint8_t *solution) { return run_list(t, 8, 2, solution); }
+static size_t run_256_3(work *t, uint8_t *solution) { return run_list(t, 8, 3, solution); }
+static size_t run_256_4(work *t, uint8_t *solution) { return run_list(t, 8, 4, solution); }
+
+static uint64_t solve_rows(uint64_t field, uint64_t n, uint64_t m, uint8_t *table, uint8_t *solution,
+                           const uint8_t *mask, const uint8_t *nonzero, uint64_t answer[4])
+{
+    static size_t (*const runs[2][3])(work *, uint8_t *) = {{run_16_2, run_16_3, run_16_4},
+                                                            {run_256_2, run_256_3, run_256_4}};
+    planes rows[96];
+    work t = {m, rows, mask, nonzero};
+    for (size_t r = 0; r < m; r++)
+        for (size_t s = 0; s < n; s++) {
+            for (size_t c = 0; c <= m; c++)
+                rows[r][s][c] = table[(r * (m + 1) + c) * n + s];
+            memset(rows[r][s] + m + 1, 0, STRIDE - m - 1);
+        }
+    uint64_t stop = runs[field == 256][n - 2](&t, solution);
+    for (size_t r = 0; r < m; r++)
+        for (size_t c = 0; c <= m; c++)
+            for (size_t s = 0; s < n; s++)
+                table[(r * (m + 1) + c) * n + s] = rows[r][s][c];
+
+    uint64_t mask_taken = (uint64_t)(t.mask - mask), nonzero_taken = (uint64_t)(t.nonzero - nonzero);
+    if (stop == 0) {
+        memcpy(answer, (uint64_t[4]){m * (m + 2), mask_taken, nonzero_taken, 0}, 4 * sizeof *answer);
+        return HZ_SOLVED;
+    }
+    memset(solution, 0, m);
+    /* full columns 1..stop-1 have 2(m-j)+2 steps each, the last one m-stop+1 */
+    uint64_t steps = (stop - 1) * (2 * m + 2) - stop * (stop - 1) + (m - stop + 1);
+    memcpy(answer, (uint64_t[4]){stop, steps, mask_taken, nonzero_taken}, 4 * sizeof *answer);
+    return HZ_STOPPED;
+}
