@@ -1,6 +1,6 @@
 -- The fields of the paper have the laws of a field.
 -- Assumes nothing.
-use mathlib.Core.Path.{_≡_, refl, sym, ap, _∙_}
+use mathlib.Core.Path.{_≡_, refl, sym, ap, ap₂, _∙_}
 use mathlib.Core.Bool.{Bool, true, false}
 use Prim.Native.Nat.{ℕ, zero, suc, _-_, _%_, _^_, _<_}
 use mathlib.Core.List.{List, [], _∷_}
@@ -132,6 +132,18 @@ adds false a b = refl
 pub add-xor : (f a b : ℕ) → fieldOf f .add a b ≡ bitXor a b % fieldOf f .q
 unfolding fieldOf
 add-xor f = adds (eqb f 16)
+
+-- exclusive or respects what its sides leave modulo q
+xors : (t : Bool) (a b c d : ℕ) → a % pick t F16 F256 .q ≡ c % pick t F16 F256 .q → b % pick t F16 F256 .q ≡ d % pick t F16 F256 .q
+    → bitXor a b % pick t F16 F256 .q ≡ bitXor c d % pick t F16 F256 .q
+unfolding F16 F256
+xors true a b c d x y = xor-mod a b 4 ∙ ap₂ bitXor x y ∙ sym (xor-mod c d 4)
+xors false a b c d x y = xor-mod a b 8 ∙ ap₂ bitXor x y ∙ sym (xor-mod c d 8)
+
+pub xor-same : (f a b c d : ℕ) → a % fieldOf f .q ≡ c % fieldOf f .q → b % fieldOf f .q ≡ d % fieldOf f .q
+    → bitXor a b % fieldOf f .q ≡ bitXor c d % fieldOf f .q
+unfolding fieldOf
+xor-same f = xors (eqb f 16)
 
 bitwises : (t : Bool) → Ring (bitwise (pick t F16 F256))
 unfolding F16 F256

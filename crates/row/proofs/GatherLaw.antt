@@ -1,28 +1,23 @@
 -- What `gather` leaves of a byte is what the share comes to, modulo q: the pairs that are left out change nothing, and the others come in their order.
 -- Assumes nothing.
-use mathlib.Core.Path.{_≡_, refl, sym, ap, ap₂, _∙_}
+use mathlib.Core.Path.{_≡_, refl, ap, _∙_}
 use mathlib.Core.Bool.{Bool, true, false}
 use Prim.Native.Nat.{ℕ, suc, _+_, _-_, _*_, _%_, _<_, _≤_}
 use mathlib.Core.List.{List}
 use native.Mathlib.Omega.{arith}
 use native.Mathlib.Decide.{decLt}
 use native.Mathlib.Nat.{mod-mod}
-use lib.Bits.{bitXor, bitAnd, and-mask, and-zero-r, xor-mod, xor-zero-r}
+use lib.Bits.{bitXor, bitAnd, and-mask, and-zero-r, xor-zero-r}
 use lib.Dec.{eqb}
 use lib.ListN.{getD}
 use Rattle.field.specs.Field.{pick, fieldOf, F16, F256}
+use Rattle.field.proofs.Fields.{xor-same}
 use Rattle.sharing.specs.Run.{run, before}
 use Rattle.sharing.proofs.Pairs.{run-holds}
 use Rattle.row.specs.Gather.{gatherTurn, gathered}
 use Rattle.row.specs.Shares.{ownDraws, pairSum, shareSum}
 
--- ---- exclusive or, modulo q
-
-xors : (t : Bool) (a b c d : ℕ) → a % pick t F16 F256 .q ≡ c % pick t F16 F256 .q → b % pick t F16 F256 .q ≡ d % pick t F16 F256 .q
-    → bitXor a b % pick t F16 F256 .q ≡ bitXor c d % pick t F16 F256 .q
-unfolding F16 F256
-xors true a b c d x y = xor-mod a b 4 ∙ ap₂ bitXor x y ∙ sym (xor-mod c d 4)
-xors false a b c d x y = xor-mod a b 8 ∙ ap₂ bitXor x y ∙ sym (xor-mod c d 8)
+-- ---- a byte that chooses
 
 bytes : (t : Bool) (a : ℕ) → bitAnd a 255 % pick t F16 F256 .q ≡ a % pick t F16 F256 .q
 unfolding F16 F256
@@ -30,12 +25,6 @@ bytes true a = ap (λ (x : ℕ). x % 16) (and-mask a 8) ∙ omega arith
 bytes false a = ap (λ (x : ℕ). x % 256) (and-mask a 8) ∙ mod-mod a 256
 
 module _ (f : ℕ) where
-  -- it respects what its sides leave
-  pub xor-same : (a b c d : ℕ) → a % fieldOf f .q ≡ c % fieldOf f .q → b % fieldOf f .q ≡ d % fieldOf f .q
-      → bitXor a b % fieldOf f .q ≡ bitXor c d % fieldOf f .q
-  unfolding fieldOf
-  xor-same = xors (eqb f 16)
-
   -- a byte of ones chooses all of the other
   byte-same : (a : ℕ) → bitAnd a 255 % fieldOf f .q ≡ a % fieldOf f .q
   unfolding fieldOf
@@ -74,7 +63,7 @@ module _ (f : ℕ) where
         | no b ↦
             let j : ℕ = i - (n - 1 - s) in
             let e : suc i - (n - 1 - s) ≡ suc j = omega arith in
-            rw (taken i j v (omega arith) (omega arith), e) (xor-same v _ _ _ r (byte-same (pairSum n Z P s j)))
+            rw (taken i j v (omega arith) (omega arith), e) (xor-same f v _ _ _ r (byte-same (pairSum n Z P s j)))
       ]
 
       pub gathered-sum : gathered n l w c k o q % fieldOf f .q ≡ shareSum n Z P s % fieldOf f .q

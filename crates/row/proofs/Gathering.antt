@@ -1,27 +1,15 @@
--- What `gather` leaves at each byte, and that it reads within its rows.
+-- What `gather` leaves at each byte.
 -- Assumes nothing.
 use mathlib.Core.Path.{_≡_, refl, _∙_}
 use Prim.Native.Nat.{ℕ, suc, _+_, _*_, _<_, _≤_}
 use mathlib.Core.List.{List}
 use native.Mathlib.Omega.{arith}
 use native.Mathlib.Decide.{ℕ-discrete}
-use native.Mathlib.Nat.{suc-mul, mul-le-mul-right}
 use lib.ListN.{length, getD, set, length-set}
 use lib.Seq.{getD-set-same, getD-set-other}
 use Rattle.sharing.proofs.Pairs.{run-holds}
+use Rattle.row.proofs.Places.{place-in}
 use Rattle.row.specs.Gather.{gathered, blockTurn, gatherBlock, gatherAll}
-
--- ---- what is read stands within the rows
-
--- place o of row d, of n rows of w
-pub row-in : (n d w o l : ℕ) → d < n → o < w → n * w ≤ l → d * w + o < l
-row-in n d w o l hd ho h = omega (arith, suc-mul d w, mul-le-mul-right w hd)
-
--- a row but the first has n places before it
-pub row-room : (n i w : ℕ) → n ≤ w → n ≤ (i + 1) * w
-row-room n i w h = let e : 1 * w ≤ (i + 1) * w = mul-le-mul-right w (omega arith) in omega arith
-
--- ---- each byte
 
 module _ (n l blocks w : ℕ) (c k out : List ℕ) where
   -- after u blocks, and j bytes of the next one
@@ -48,9 +36,9 @@ module _ (n l blocks w : ℕ) (c k out : List ℕ) where
         record {
           size = length-set y (u * l + j) _ ∙ D .size;
           done = λ v q hv hq.
-              getD-set-other y (u * l + j) (v * l + q) _ 0 (λ z. omega (arith, row-in u v l q (u * l) hv hq (omega arith))) ∙ D .done v q hv hq;
+              getD-set-other y (u * l + j) (v * l + q) _ 0 (λ z. omega (arith, place-in u l v q hv hq)) ∙ D .done v q hv hq;
           begun = λ q hq. elim (ℕ-discrete q j) [
-            | yes z ↦ rw z (getD-set-same y (u * l + j) _ 0 (omega (arith, D .size, row-in blocks u l j (length out) hu hj room)))
+            | yes z ↦ rw z (getD-set-same y (u * l + j) _ 0 (omega (arith, D .size, room, place-in blocks l u j hu hj)))
             | no z ↦ getD-set-other y (u * l + j) (u * l + q) _ 0 (λ e. z (omega arith)) ∙ D .begun q (omega arith)
           ];
         }

@@ -1,3 +1,4 @@
+pub mod Places
 pub mod Streaming
 pub mod Cells
 pub mod Gathering

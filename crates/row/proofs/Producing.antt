@@ -4,33 +4,14 @@ use mathlib.Core.Path.{_≡_, refl, ap, _∙_}
 use Prim.Native.Nat.{ℕ, suc, _+_, _-_, _*_, _<_, _≤_}
 use mathlib.Core.List.{List}
 use native.Mathlib.Omega.{arith}
-use native.Mathlib.Decide.{ℕ-discrete, decLt}
-use native.Mathlib.Nat.{suc-mul, mul-le-mul-right, le-refl}
+use native.Mathlib.Decide.{ℕ-discrete}
+use native.Mathlib.Nat.{suc-mul, le-refl}
 use lib.Bits.{bitXor}
 use lib.ListN.{length, getD, length-set}
 use lib.Seq.{getD-set-same, getD-set-other}
-use Rattle.sharing.proofs.Loops.{taken-room}
 use Rattle.sharing.proofs.Pairs.{run-holds}
+use Rattle.row.proofs.Places.{place-in, same-row, same-place}
 use Rattle.row.specs.Products.{term, byteTurn, byteProducts, productTurn, blockProducts, allProducts}
-
--- a place is in one row
-same-row : (w d o e p : ℕ) → o < w → p < w → d * w + o ≡ e * w + p → d ≡ e
-same-row w d o e p ho hp h = elim (decLt d e) [
-  | yes g ↦ absurd (omega (arith, suc-mul d w, mul-le-mul-right w g))
-  | no g ↦ elim (decLt e d) [
-    | yes k ↦ absurd (omega (arith, suc-mul e w, mul-le-mul-right w k))
-    | no k ↦ omega arith
-  ]
-]
-
--- and at one place of it
-same-place : (w d o e p : ℕ) → o < w → p < w → d * w + o ≡ e * w + p → o ≡ p
-same-place w d o e p ho hp h =
-    omega (arith, ap (λ (x : ℕ). x * w) (same-row w d o e p ho hp h))
-
-place-in : (w n d o : ℕ) → d < n → o < w → d * w + o < n * w
-place-in w n d o hd ho =
-    let h : d * w + w ≤ n * w = taken-room (d * w) d w n refl hd (le-refl _) in omega arith
 
 -- ---- a byte
 
@@ -47,7 +28,7 @@ module _ (width n r w : ℕ) (m : List ℕ) (y o q : ℕ) (c : List ℕ) (lc : n
       record {
         size = simp length-set (D .size);
         done = λ d hd. elim (ℕ-discrete d k) [
-          | yes z ↦ rw z (getD-set-same s (k * w + o) _ 0 (omega (arith, D .size, place-in w n k o hk ho))
+          | yes z ↦ rw z (getD-set-same s (k * w + o) _ 0 (omega (arith, D .size, place-in n w k o hk ho))
               ∙ ap (λ (x : ℕ). bitXor x (term m r width (q + n - k) y)) (D .left k o ho (λ e. le-refl k)))
           | no z ↦ getD-set-other s (k * w + o) (d * w + o) _ 0 (λ e. z (same-row w d o k o ho ho e)) ∙ D .done d (omega arith)
         ];
@@ -75,7 +56,7 @@ module _ (width n l r blocks w : ℕ) (b m c : List ℕ) (lc : n * w ≤ length 
   bytes-next : (u q : ℕ) → u < blocks → q < l → (k : ℕ) → k ≡ suc (u * l + q) → (s : List ℕ) → Bytes (u * l + q) s
       → Bytes k (productTurn width n r w b m (u * l) q s)
   bytes-next u q hu hq k e s D =
-      let ho : u * l + q < w = omega (arith, place-in l blocks u q hu hq) in
+      let ho : u * l + q < w = omega (arith, place-in blocks l u q hu hq) in
       let R = rows width n r w m (getD b (u * l + q) 0) (u * l + q) q s (D .size) ho in
       record {
         size = R .size;
@@ -84,7 +65,7 @@ module _ (width n l r blocks w : ℕ) (b m c : List ℕ) (lc : n * w ≤ length 
               let x : v ≡ u = same-row l v t u q ht hq z in
               let y : t ≡ q = same-place l v t u q ht hq z in
               rw (x, y) (R .done d hd ∙ ap (λ (x : ℕ). bitXor x (term m r width (q + n - d) (getD b (u * l + q) 0))) (D .left d (u * l + q) ho (le-refl _)))
-          | no z ↦ R .left d (v * l + t) (omega (arith, place-in l blocks v t hv ht)) (λ g. absurd (z g)) ∙ D .done d v t hd hv ht (omega arith)
+          | no z ↦ R .left d (v * l + t) (omega (arith, place-in blocks l v t hv ht)) (λ g. absurd (z g)) ∙ D .done d v t hd hv ht (omega arith)
         ];
         left = λ d p hp h. R .left d p hp (λ g. absurd (omega arith)) ∙ D .left d p hp (omega arith);
       }
@@ -105,4 +86,4 @@ module _ (width n l r blocks w : ℕ) (b m c : List ℕ) (lc : n * w ≤ length 
   pub products-at : (d u q : ℕ) → d < n → u < blocks → q < l
       → getD (allProducts width n l r blocks w b m c) (d * w + (u * l + q)) 0
       ≡ bitXor (getD c (d * w + (u * l + q)) 0) (term m r width (q + n - d) (getD b (u * l + q) 0))
-  products-at d u q hd hu hq = bytes .done d u q hd hu hq (place-in l blocks u q hu hq)
+  products-at d u q hd hu hq = bytes .done d u q hd hu hq (place-in blocks l u q hu hq)

@@ -1,17 +1,17 @@
 -- A factor whose shares are taken modulo q gives the same Products.
 -- Assumes nothing.
-use mathlib.Core.Path.{_≡_, refl, sym, ap, _∙_}
+use mathlib.Core.Path.{_≡_, refl, ap, _∙_}
 use mathlib.Core.Bool.{Bool}
 use Prim.Native.Nat.{ℕ, zero, suc, _*_, _%_, _<_}
 use mathlib.Core.List.{List}
 use native.Mathlib.Nat.{mod-lt}
 use lib.ListN.{length, getD, take, drop}
 use borrow.Author.Tests.{ne-eqb}
-use Rattle.field.specs.Field.{Ops, Ring, F16, F256, fieldOf, pick}
+use Rattle.field.specs.Field.{Ops, Field, F16, F256, fieldOf, pick}
 use Rattle.field.proofs.Fields.{field-of}
+use Rattle.field.proofs.Inverses.{mul-left}
 use Rattle.sharing.specs.Run.{tab, pairs}
 use Rattle.sharing.specs.Rules.{drawAt, product}
-use Rattle.sharing.proofs.Rings.{add-zero-lt, add-mul, mul-zero}
 use Rattle.sharing.proofs.Pairs.{tab-at, tab-length}
 use Rattle.sharing.proofs.Draws.{productOver-ext}
 use Rattle.row.specs.Shares.{Below, Products}
@@ -21,29 +21,23 @@ tab-below q h zero g l i = h
 tab-below q h (suc k) g l zero = l 0
 tab-below q h (suc k) g l (suc i) = tab-below q h k (λ i. g (suc i)) (λ i. l (suc i)) i
 
-module _ (F : Ops) (R : Ring F) where
-  mul-left : (a b : ℕ) → F .mul (a % F .q) b ≡ F .mul a b
-  mul-left a b =
-      ap (λ (x : ℕ). F .mul x b) (sym (R .add-zero a)) ∙ add-mul F R a 0 b
-      ∙ ap (F .add (F .mul a b)) (R .mul-comm 0 b ∙ mul-zero F R b) ∙ add-zero-lt F R (R .mul-lt a b)
+module _ (F : Ops) (L : Field F) (factor : List ℕ) where
+  pub reduced-below : Below (F .q) (tab (length factor) (drawAt F factor))
+  reduced-below = record { at = tab-below (F .q) (L .ring .pos) (length factor) (drawAt F factor) (λ i. mod-lt (getD factor i 0) (L .ring .pos)) }
 
-  module _ (factor : List ℕ) where
-    pub reduced-below : Below (F .q) (tab (length factor) (drawAt F factor))
-    reduced-below = record { at = tab-below (F .q) (R .pos) (length factor) (drawAt F factor) (λ i. mod-lt (getD factor i 0) (R .pos)) }
+  product-reduced : (ds e : List ℕ) → product F ds (tab (length factor) (drawAt F factor)) e ≡ product F ds factor e
+  unfolding product
+  product-reduced ds e =
+      rw (tab-length (length factor) (drawAt F factor))
+      (productOver-ext F (length factor) (λ k h. refl)
+      (λ i j hi hj. ap (λ (x : ℕ). F .mul x (getD e j 0)) (tab-at (length factor) (drawAt F factor) i hi) ∙ mul-left F L (getD factor i 0) (getD e j 0)))
 
-    product-reduced : (ds e : List ℕ) → product F ds (tab (length factor) (drawAt F factor)) e ≡ product F ds factor e
-    unfolding product
-    product-reduced ds e =
-        rw (tab-length (length factor) (drawAt F factor))
-        (productOver-ext F (length factor) (λ k h. refl)
-        (λ i j hi hj. ap (λ (x : ℕ). F .mul x (getD e j 0)) (tab-at (length factor) (drawAt F factor) i hi) ∙ mul-left (getD factor i 0) (getD e j 0)))
-
-    pub products-reduced : {n columns : ℕ} {ds row out : List ℕ}
-        → Products F n columns ds (tab (length factor) (drawAt F factor)) row out → Products F n columns ds factor row out
-    products-reduced {n} {columns} {ds} {row} {out} p =
-        record {
-          at = λ u s hu hs. p .at u s hu hs ∙ ap (λ (y : List ℕ). getD y s 0 % F .q) (product-reduced (drop (u * pairs n) ds) (take n (drop (u * n) row)));
-        }
+  pub products-reduced : {n columns : ℕ} {ds row out : List ℕ}
+      → Products F n columns ds (tab (length factor) (drawAt F factor)) row out → Products F n columns ds factor row out
+  products-reduced {n} {columns} {ds} {row} {out} p =
+      record {
+        at = λ u s hu hs. p .at u s hu hs ∙ ap (λ (y : List ℕ). getD y s 0 % F .q) (product-reduced (drop (u * pairs n) ds) (take n (drop (u * n) row)));
+      }
 
 -- ---- the two fields
 
@@ -56,8 +50,8 @@ field-256 f h = ap (λ (t : Bool). pick t F16 F256) (ne-eqb f 16 h)
 
 -- what is reduced in the field that f names is below q of the field that it is
 pub below-of : (f g : ℕ) (factor : List ℕ) → fieldOf f ≡ fieldOf g → Below (fieldOf g .q) (tab (length factor) (drawAt (fieldOf f) factor))
-below-of f g factor e = rw e (reduced-below (fieldOf g) (field-of g .ring) factor)
+below-of f g factor e = rw e (reduced-below (fieldOf g) (field-of g) factor)
 
 pub products-of : (f g n columns : ℕ) (ds factor row out : List ℕ) → fieldOf f ≡ fieldOf g
     → Products (fieldOf g) n columns ds (tab (length factor) (drawAt (fieldOf f) factor)) row out → Products (fieldOf f) n columns ds factor row out
-products-of f g n columns ds factor row out e p = products-reduced (fieldOf f) (field-of f .ring) factor (rw e (rw e at p))
+products-of f g n columns ds factor row out e p = products-reduced (fieldOf f) (field-of f) factor (rw e (rw e at p))

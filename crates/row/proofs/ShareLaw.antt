@@ -1,21 +1,20 @@
 -- Product, share by share: its sums over the pairs leave in share s, modulo q, what plain exclusive or leaves, in whatever order.
 -- Assumes nothing.
-use mathlib.Core.Path.{_≡_, refl, sym, ap, ap₂, _∙_}
+use mathlib.Core.Path.{_≡_, refl, sym, ap, _∙_}
 use Prim.Native.Nat.{ℕ, zero, suc, _+_, _-_, _%_, _<_, _≤_}
 use mathlib.Core.List.{List}
 use native.Mathlib.Omega.{arith}
 use native.Mathlib.Decide.{ℕ-discrete}
-use native.Mathlib.Nat.{mod-eq-of-lt}
+use native.Mathlib.Nat.{mod-mod}
 use lib.Bits.{bitXor, xor-comm}
 use lib.ListN.{length, getD, set, length-set}
 use lib.Seq.{getD-set-same, getD-set-other}
 use Rattle.field.specs.Field.{Ring, fieldOf}
-use Rattle.field.proofs.Fields.{field-of, sub-add, add-xor}
+use Rattle.field.proofs.Fields.{field-of, sub-add, add-xor, xor-same}
 use Rattle.field.proofs.Xor.{xor-assoc}
 use Rattle.sharing.specs.Run.{run, before, pairs, pairTurn, pairsOf, overPairs, tab}
 use Rattle.sharing.specs.Rules.{addAt, subAt, productTurn, productOver}
 use Rattle.sharing.proofs.Pairs.{run-holds, pair-lt, tab-length, tab-at}
-use Rattle.sharing.proofs.Rings.{add-left, add-right}
 use Rattle.row.specs.Shares.{ownDraws, pairSum, shareSum}
 use Rattle.row.proofs.OneTurn.{run-keeps, run-one}
 
@@ -48,11 +47,7 @@ module _ (f n : ℕ) (Z Z' : ℕ → ℕ) (P : ℕ → ℕ → ℕ) (hz : (k : �
   -- exclusive or, and the field's sum
   add-same : (a b c d : ℕ) → a % fieldOf f .q ≡ c % fieldOf f .q → b % fieldOf f .q ≡ d % fieldOf f .q → bitXor a b % fieldOf f .q ≡ fieldOf f .add c d % fieldOf f .q
   add-same a b c d x y =
-      sym (add-xor f a b)
-      ∙ sym (add-left (fieldOf f) R a b) ∙ sym (add-right (fieldOf f) R _ b)
-      ∙ ap₂ (fieldOf f .add) x y
-      ∙ add-right (fieldOf f) R _ d ∙ add-left (fieldOf f) R c d
-      ∙ sym (mod-eq-of-lt (R .add-lt c d))
+      xor-same f a b c d x y ∙ sym (mod-mod (bitXor c d) (fieldOf f .q)) ∙ ap (λ (z : ℕ). z % fieldOf f .q) (sym (add-xor f c d))
 
   -- n shares, of which share s leaves what x does
   record Leaves (x : ℕ) (y : List ℕ) : Type 0 where

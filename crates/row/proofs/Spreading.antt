@@ -4,33 +4,17 @@ use mathlib.Core.Path.{_≡_, refl, sym, ap, _∙_}
 use Prim.Native.Nat.{ℕ, suc, _+_, _-_, _*_, _<_, _≤_}
 use mathlib.Core.List.{List}
 use native.Mathlib.Omega.{arith}
-use native.Mathlib.Decide.{decLt}
-use native.Mathlib.Nat.{suc-mul, mul-le-mul-right}
 use lib.Bits.{bitXor}
 use lib.ListN.{length, getD, length-set}
 use lib.Seq.{getD-set-same, getD-set-other}
 use Rattle.sharing.specs.Run.{run, before, pairs, pairTurn, pairsOf, overPairs}
 use Rattle.sharing.proofs.Loops.{run-length}
 use Rattle.sharing.proofs.Pairs.{run-holds, over-length}
-use Rattle.row.specs.Places.{xorAt}
+use Rattle.sharing.specs.Passes.{xorAt}
 use Rattle.row.specs.Spread.{spreadTurn, spreadColumn, spreadAll}
 use Rattle.row.specs.Shares.{ownDraws}
+use Rattle.row.proofs.Places.{place-in, same-row}
 use Rattle.row.proofs.OneTurn.{run-keeps, run-one}
-
--- ---- places
-
--- byte o of row d is there
-pub place-in : (n w d o : ℕ) → d < n → o < w → d * w + o < n * w
-place-in n w d o hd ho = omega (arith, suc-mul d w, mul-le-mul-right w hd)
-
-row-same : (w d e x y : ℕ) → x < w → y < w → d * w + x ≡ e * w + y → d ≡ e
-row-same w d e x y hx hy p = elim (decLt d e) [
-  | yes l ↦ absurd (omega (arith, suc-mul d w, mul-le-mul-right w l))
-  | no l ↦ elim (decLt e d) [
-    | yes m ↦ absurd (omega (arith, suc-mul e w, mul-le-mul-right w m))
-    | no m ↦ omega arith
-  ]
-]
 
 -- what is known of the list: how long it is at least, and what stands at o
 record Has (l o x : ℕ) (y : List ℕ) : Type 0 where
@@ -63,9 +47,9 @@ module _ (n columns w : ℕ) (z : List ℕ) (hw : columns * n ≤ w) (u d s : �
   -- no two places are the same byte
   place-same : (t e i : ℕ) → t < columns → i < n → o ≡ e * w + (t * n + i) → (d ≡ e) × (u ≡ t) × (s ≡ i)
   place-same t e i ht hi p =
-      let q : d ≡ e = row-same w d e (u * n + s) (t * n + i) (column-in u s hu hs) (column-in t i ht hi) p in
+      let q : d ≡ e = same-row w d (u * n + s) e (t * n + i) (column-in u s hu hs) (column-in t i ht hi) p in
       let m : d * w ≡ e * w = ap (λ (k : ℕ). k * w) q in
-      let r : u ≡ t = row-same n u t s i hs hi (omega arith) in
+      let r : u ≡ t = same-row n u s t i hs hi (omega arith) in
       let v : u * n ≡ t * n = ap (λ (k : ℕ). k * n) r in
       (q, r, omega arith)
 

@@ -1,4 +1,3 @@
-pub mod Places
 pub mod Spread
 pub mod Streams
 pub mod Products

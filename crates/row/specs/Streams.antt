@@ -9,7 +9,7 @@ use lib.ListN.{getD, set}
 use Rattle.field.specs.Field.{pick}
 use Rattle.sharing.specs.Run.{run}
 
--- x·a in the field of width bits (4 or 8)
+-- an element a times the polynomial x, in the field of width bits (4 or 8)
 unfoldable pub doubled : ℕ → ℕ → ℕ
 doubled width a =
     pick (eqb width 4) (bitXor (a * 2 % 16) (a / 8 % 2 * 3)) (bitXor (a * 2 % 256) (a / 128 % 2 * 27))

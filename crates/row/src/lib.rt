@@ -23,7 +23,7 @@ ghost use Rattle.row.specs.Shares.{Below, Products};
 
 mod later;
 
-// x times 2, that is, times the polynomial x.
+// An element times the polynomial x.
 fn doubled(width: usize, x: u8) -> u8
     ensures { λ r. ⌜ r ≡ doubled width x ⌝ }
 {

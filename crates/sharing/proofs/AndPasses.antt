@@ -1,7 +1,7 @@
 -- The passes over the pairs, one after another, are the And of 01: each pair's place holds its draw and both cross terms, and exclusive or in
 -- all passes but the last leaves what the field's sums leave, modulo q.
 -- Assumes nothing.
-use mathlib.Core.Path.{_≡_, refl, sym, ap, ap₂, _∙_}
+use mathlib.Core.Path.{_≡_, refl, sym, ap, _∙_}
 use Prim.Native.Nat.{ℕ, zero, suc, _+_, _-_, _%_, _<_, _≤_}
 use mathlib.Core.List.{List, [], _∷_, map}
 use native.Mathlib.Omega.{arith}
@@ -11,12 +11,11 @@ use lib.Bits.{bitXor, bitAnd}
 use lib.ListN.{length, getD, drop, length-set, length-map}
 use lib.Seq.{getD-set-same, getD-set-other, ext-getD}
 use Rattle.field.specs.Field.{Ring, fieldOf, bitwise}
-use Rattle.field.proofs.Fields.{field-of, bitwise-of, sub-add, add-xor}
+use Rattle.field.proofs.Fields.{field-of, bitwise-of, sub-add, add-xor, xor-same}
 use Rattle.sharing.specs.Run.{run, tab, before, pairs, pairTurn, pairsOf, overPairs}
 use Rattle.sharing.specs.Rules.{drawAt, addAt, subAt, refresh, crossed, productTurn, productOver, andOf, shifted, fold}
 use Rattle.sharing.specs.Passes.{xorAt, crossTurn, ownTerms, sumTurn, reduced}
 use Rattle.sharing.proofs.Pairs.{tab-length, tab-at, before-mono, pair-lt, run-holds}
-use Rattle.sharing.proofs.Rings.{add-left, add-right}
 
 -- ---- each pair's place
 
@@ -91,10 +90,7 @@ module _ (f : ℕ) where
 
   add-same : (s v t w : ℕ) → s % fieldOf f .q ≡ t → v % fieldOf f .q ≡ w % fieldOf f .q → bitXor s v % fieldOf f .q ≡ fieldOf f .add t w
   add-same s v t w x y =
-      sym (add-xor f s v)
-      ∙ sym (add-left (fieldOf f) R s v) ∙ sym (add-right (fieldOf f) R _ v)
-      ∙ ap₂ (fieldOf f .add) x y
-      ∙ add-right (fieldOf f) R t w
+      xor-same f s v t w (sym (mod-mod s (fieldOf f .q)) ∙ ap (λ (z : ℕ). z % fieldOf f .q) x) y ∙ sym (add-xor f t w)
 
   -- n shares, and what they leave modulo q
   record Same (n : ℕ) (s t : List ℕ) : Type 0 where

@@ -7,7 +7,7 @@ use lib.ListN.{length, getD}
 use Rattle.sharing.specs.Run.{run}
 use Rattle.sharing.proofs.Loops.{run-none, run-next, run-done}
 use Rattle.row.specs.Gather.{gatherTurn, gathered}
-use Rattle.row.proofs.Gathering.{row-in, row-room}
+use Rattle.row.proofs.Places.{place-in, row-room}
 use borrow.Author.Needs.{needs}
 use Rattle.row.proofs.gather_byte.Statement.{statement}
 use Rattle.row.proofs.gather_byte.Tie as tie
@@ -20,16 +20,16 @@ abbrev μ-loop : tie.MeasureT-loop
 
 -- the pair's two terms, and what chooses it, are there
 first : (c : tie.In-loop Inv-loop μ-loop) → let x = c .before .before .before .args in (x .n - 1 - c .before .loop .i) * x .w + x .o < length (x .c .now)
-first c = let x = c .before .before .before .args in row-in (x .n) (x .n - 1 - c .before .loop .i) (x .w) (x .o) (length (x .c .now)) (omega arith) (omega arith) (omega arith)
+first c = let x = c .before .before .before .args in omega (arith, place-in (x .n) (x .w) (x .n - 1 - c .before .loop .i) (x .o) (omega arith) (omega arith))
 
 second : (c : tie.In-loop Inv-loop μ-loop) → let x = c .before .before .before .args in (c .before .loop .i + 1) * x .w + x .o < length (x .c .now)
-second c = let x = c .before .before .before .args in row-in (x .n) (c .before .loop .i + 1) (x .w) (x .o) (length (x .c .now)) (omega arith) (omega arith) (omega arith)
+second c = let x = c .before .before .before .args in omega (arith, place-in (x .n) (x .w) (c .before .loop .i + 1) (x .o) (omega arith) (omega arith))
 
 choice : (c : tie.In-loop Inv-loop μ-loop) → let x = c .before .before .before .args in (x .n - 1 - c .before .loop .i) * x .l + x .q < length (x .k .now)
-choice c = let x = c .before .before .before .args in row-in (x .n) (x .n - 1 - c .before .loop .i) (x .l) (x .q) (length (x .k .now)) (omega arith) (omega arith) (omega arith)
+choice c = let x = c .before .before .before .args in omega (arith, place-in (x .n) (x .l) (x .n - 1 - c .before .loop .i) (x .q) (omega arith) (omega arith))
 
 shared-slice-read-v : tie.Need-shared-slice-read-v Inv-loop μ-loop
-shared-slice-read-v c = let x = c .before .args in omega (arith, row-in (x .n) 0 (x .w) (x .o) (length (x .c .now)) (omega arith) (omega arith) (omega arith))
+shared-slice-read-v c = let x = c .before .args in omega (arith, place-in (x .n) (x .w) 0 (x .o) (omega arith) (omega arith))
 
 sub-e : tie.Need-sub-e Inv-loop μ-loop
 sub-e c = search needs
