@@ -6,6 +6,8 @@ use mathlib.Core.Bool.{Bool, true, false}
 use Prim.Native.Nat.{ℕ, zero, suc, _%_, _^_, _<_}
 use lib.Bits.{bitXor, bitAnd}
 use lib.Dec.{eqb}
+use lib.ListN.{getD}
+use mathlib.Core.List.{List}
 use Rattle.field.specs.Poly.{product}
 
 -- the operations, apart from their laws
@@ -69,6 +71,10 @@ binary w m =
 -- F16: modulo x^4 + x + 1
 unfoldable pub F16 : Ops
 F16 = binary 4 0b1_0011
+
+-- a row of F16's table of products: those of a with each element, in order
+pub record RowOf (a : ℕ) (row : List ℕ) : Type 0 where
+  pub at : (b : ℕ) → getD row (b % 16) 0 ≡ F16 .mul a b
 
 -- F256: modulo x^8 + x^4 + x^3 + x + 1
 unfoldable pub F256 : Ops

@@ -1,7 +1,7 @@
 // The fields F16 and F256: sum, difference, product, inverse, and the draw of a tape's byte.
 // The ground of the map: it stands on nothing. An operation takes any bytes; a byte of 16 or more counts in F16 as what it leaves.
 ghost use mathlib.Core.Path.{_≡_};
-ghost use Rattle.field.specs.Field.{F16, F256, inv, fieldOf, sub, draw, bitwise};
+ghost use Rattle.field.specs.Field.{F16, F256, inv, fieldOf, sub, draw, RowOf};
 
 const MUL16: [[u8; 16]; 16] = [
     [0, 0, 0, 0, 0, 0, 0, 0, 0, 0, 0, 0, 0, 0, 0, 0],
@@ -283,15 +283,16 @@ const INV256: [u8; 256] = [
     28,
 ];
 
-fn mul16(a: u8, b: u8) -> u8
-    ensures { λ r. ⌜ r ≡ F16 .mul a b ⌝ }
+// The row of a: its products with each element, in order. Who looks a secret byte up in it must have an a that is public: a look-up in
+// the whole table is an address that both factors choose.
+pub fn row16(a: u8) -> [u8; 16]
+    ensures { λ r. ⌜ RowOf a r ⌝ }
 {
     let i = (a % 16) as usize;
-    let j = (b % 16) as usize;
-    MUL16[i][j]
+    MUL16[i]
 }
 
-// The same product by shifting and adding, with no branch and no table, for loops over many bytes: p + x·y is the product at each turn.
+// The product of two elements by shifting and adding, with no branch and no table, where both may be secret: p + x·y is the product at each turn.
 pub fn shift16(a: u8, b: u8) -> u8
     ensures { λ r. ⌜ r ≡ F16 .mul a b ⌝ }
 {
@@ -352,19 +353,6 @@ pub fn sub(f: u64, a: u8, b: u8) -> u8
     ensures { λ r. ⌜ r ≡ sub (fieldOf f) a b ⌝ }
 {
     add(f, a, b)
-}
-
-pub fn mul(f: u64, a: u8, b: u8) -> u8
-    ensures { λ r. ⌜ r ≡ fieldOf f .mul a b ⌝ }
-{
-    if f == 16 { mul16(a, b) } else { mul256(a, b) }
-}
-
-// Bitwise and, of a field's w bits.
-pub fn and(f: u64, a: u8, b: u8) -> u8
-    ensures { λ r. ⌜ r ≡ bitwise (fieldOf f) .mul a b ⌝ }
-{
-    if f == 16 { (a & b) % 16 } else { a & b }
 }
 
 // The inverse; 0 at 0, which has none.

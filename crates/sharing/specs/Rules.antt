@@ -3,7 +3,6 @@
 -- draw is taken from it here: in F16 and F256 that is the same.
 -- Assumes nothing.
 use Prim.Native.Nat.{ℕ, _+_, _-_, _*_, _/_, _%_, _^_}
-use mathlib.Core.Bool.{Bool}
 use mathlib.Core.List.{List, [], _∷_, _++_, map}
 use lib.ListN.{length, getD, set, drop}
 use lib.Dec.{eqb}
@@ -51,10 +50,6 @@ product F ds a b = productOver F (drawAt F ds) (crossed (F .mul) a b) (length a)
 -- And is the same with bitwise and
 unfoldable pub andOf : Ops → List ℕ → List ℕ → List ℕ → List ℕ
 andOf F ds a b = productOver F (drawAt F ds) (crossed (bitwise F .mul) a b) (length a)
-
--- what Product and And multiply single shares by
-unfoldable pub mulOf : ℕ → Bool → ℕ → ℕ → ℕ
-mulOf f bits = pick bits (bitwise (fieldOf f) .mul) (fieldOf f .mul)
 
 -- Opening (N draws): for i < j in order, draw r, add r to shares i and j; then sum the shares
 unfoldable pub pairRefreshTurn : Ops → List ℕ → ℕ → ℕ → ℕ → List ℕ → List ℕ

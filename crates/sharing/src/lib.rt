@@ -7,7 +7,7 @@ ghost use Prim.Native.Nat.{_+_, _-_, _*_, _<_, _≤_};
 ghost use lib.ListN.{length, drop};
 ghost use Rattle.field.specs.Field.{F16, F256, fieldOf};
 ghost use Rattle.sharing.specs.Run.{run, tab, before, pairs, pairsOf, overPairs};
-ghost use Rattle.sharing.specs.Rules.{sum, drawAt, addAt, subAt, refreshTurn, refresh, crossed, mulOf, productTurn, productOver, product, andOf, pairRefreshTurn, pairRefresh, opening, folds, foldDraws, foldTurn, complemented, shifted, fold, lowBits, zeroFlag, scaled, blindTurn, blinded, blindedValue, factors, fourOf, inversionDraws};
+ghost use Rattle.sharing.specs.Rules.{sum, drawAt, addAt, subAt, refreshTurn, refresh, pairRefreshTurn, pairRefresh, opening, folds, foldDraws, foldTurn, complemented, shifted, fold, lowBits, zeroFlag, scaled, blindTurn, blinded, blindedValue, factors, fourOf, inversionDraws};
 ghost use Rattle.sharing.specs.Passes.{crossTurn, ownTerms, sumTurn, reduced};
 
 // The answer of an inversion: n factors whose product is the inverse; places not in use are 0.
@@ -111,106 +111,13 @@ pub fn pair_refresh(f: u64, s: &mut [u8], ds: &[u8])
     }
 }
 
-pub fn opening(f: u64, s: &[u8], ds: &[u8]) -> u8
+// s is a copy, which is spent: it is left as its pair refresh, which is what is summed.
+pub fn opening(f: u64, s: &mut [u8], ds: &[u8]) -> u8
     requires { ⌜ (length (now s) ≤ 4) × (pairs (length (now s)) ≤ length (now ds)) ⌝ }
-    ensures { λ r. ⌜ r ≡ opening (fieldOf f) (now (ds .entry)) (now (s .entry)) ⌝ }
+    ensures { λ r. ⌜ (r ≡ opening (fieldOf f) (now (ds .entry)) (now (s .entry))) × (now (s .exit) ≡ pairRefresh (fieldOf f) (now (ds .entry)) (now (s .entry))) ⌝ }
 {
-    let n = s.len();
-    let mut copy = [0u8; 4];
-    copy_into(&mut copy[..n], s);
-    pair_refresh(f, &mut copy[..n], ds);
-    sum(f, &copy[..n])
-}
-
-// What Product multiplies two shares by, or And, bitwise.
-fn times(f: u64, bits: bool, a: u8, b: u8) -> u8
-    ensures { λ r. ⌜ r ≡ mulOf f bits a b ⌝ }
-{
-    if bits {
-        field::and(f, a, b)
-    } else {
-        field::mul(f, a, b)
-    }
-}
-
-// out_i = a_i·b_i
-fn own_products(f: u64, bits: bool, out: &mut [u8], a: &[u8], b: &[u8])
-    requires { ⌜ (length (now out) ≡ length (now a)) × (length (now b) ≡ length (now a)) ⌝ }
-    ensures { λ r. ⌜ now (out .exit) ≡ tab (length (now (a .entry))) (λ i. crossed (mulOf f bits) (now (a .entry)) (now (b .entry)) i i) ⌝ }
-{
-    for i in 0..a.len() {
-        out[i] = times(f, bits, a[i], b[i]);
-    }
-}
-
-fn product_turn(
-    f: u64,
-    bits: bool,
-    out: &mut [u8],
-    a: &[u8],
-    b: &[u8],
-    ds: &[u8],
-    k: usize,
-    i: usize,
-    j: usize,
-)
-    requires { ⌜ (i < length (now a)) × (j < length (now a)) × (k < length (now ds)) ⌝ }
-    requires { ⌜ (length (now out) ≡ length (now a)) × (length (now b) ≡ length (now a)) ⌝ }
-    ensures { λ r. ⌜ now (out .exit) ≡ productTurn (fieldOf f) (drawAt (fieldOf f) (now (ds .entry))) (crossed (mulOf f bits) (now (a .entry)) (now (b .entry))) k i j (now (out .entry)) ⌝ }
-{
-    let z = field::draw(f, ds[k]);
-    let x = times(f, bits, a[i], b[j]);
-    let y = times(f, bits, a[j], b[i]);
-    sub_at(f, out, i, z);
-    add_at(f, out, j, field::add(f, field::add(f, x, z), y));
-}
-
-// The pairs of i; the first of them is pair number at.
-fn product_of(
-    f: u64,
-    bits: bool,
-    out: &mut [u8],
-    a: &[u8],
-    b: &[u8],
-    ds: &[u8],
-    i: usize,
-    at: usize,
-)
-    requires { ⌜ (length (now a) ≤ 4) × (length (now out) ≡ length (now a)) × (length (now b) ≡ length (now a)) ⌝ }
-    requires { ⌜ (i < length (now a)) × (at ≡ before (length (now a)) i) × (pairs (length (now a)) ≤ length (now ds)) ⌝ }
-    ensures { λ r. ⌜ now (out .exit) ≡ pairsOf (productTurn (fieldOf f) (drawAt (fieldOf f) (now (ds .entry))) (crossed (mulOf f bits) (now (a .entry)) (now (b .entry)))) (length (now (a .entry))) i (now (out .entry)) ⌝ }
-{
-    let n = a.len() - 1 - i;
-    for u in 0..n {
-        product_turn(f, bits, out, a, b, ds, at + u, i, i + 1 + u);
-    }
-}
-
-fn product_over(f: u64, bits: bool, out: &mut [u8], a: &[u8], b: &[u8], ds: &[u8])
-    requires { ⌜ (length (now a) ≤ 4) × (length (now out) ≡ length (now a)) × (length (now b) ≡ length (now a)) × (pairs (length (now a)) ≤ length (now ds)) ⌝ }
-    ensures { λ r. ⌜ now (out .exit) ≡ productOver (fieldOf f) (drawAt (fieldOf f) (now (ds .entry))) (crossed (mulOf f bits) (now (a .entry)) (now (b .entry))) (length (now (a .entry))) ⌝ }
-{
-    own_products(f, bits, out, a, b);
-    let n = a.len();
-    let mut at: usize = 0;
-    for i in 0..n {
-        product_of(f, bits, out, a, b, ds, i, at);
-        at += n - 1 - i;
-    }
-}
-
-pub fn product(f: u64, out: &mut [u8], a: &[u8], b: &[u8], ds: &[u8])
-    requires { ⌜ (length (now a) ≤ 4) × (length (now out) ≡ length (now a)) × (length (now b) ≡ length (now a)) × (pairs (length (now a)) ≤ length (now ds)) ⌝ }
-    ensures { λ r. ⌜ now (out .exit) ≡ product (fieldOf f) (now (ds .entry)) (now (a .entry)) (now (b .entry)) ⌝ }
-{
-    product_over(f, false, out, a, b, ds);
-}
-
-pub fn and(f: u64, out: &mut [u8], a: &[u8], b: &[u8], ds: &[u8])
-    requires { ⌜ (length (now a) ≤ 4) × (length (now out) ≡ length (now a)) × (length (now b) ≡ length (now a)) × (pairs (length (now a)) ≤ length (now ds)) ⌝ }
-    ensures { λ r. ⌜ now (out .exit) ≡ andOf (fieldOf f) (now (ds .entry)) (now (a .entry)) (now (b .entry)) ⌝ }
-{
-    product_over(f, true, out, a, b, ds);
+    pair_refresh(f, s, ds);
+    sum(f, s)
 }
 
 // How many folds the zero flag has.
@@ -515,12 +422,34 @@ fn scale256(s: &mut [u8], z: u8)
     }
 }
 
-// Every share times z. A loop for each field, so that the compiler has no choice to make inside it.
+// Every share times z, which may be secret. A loop for each field, so that the compiler has no choice to make inside it.
 pub fn scale(f: u64, s: &mut [u8], z: u8)
     ensures { λ r. ⌜ now (s .exit) ≡ scaled (fieldOf f) z (now (s .entry)) ⌝ }
 {
     if f == 16 {
         scale16(s, z);
+    } else {
+        scale256(s, z);
+    }
+}
+
+// The products of z's row that the shares name: z chooses the row and each share its own entry, so z may not be secret.
+fn look_up16(s: &mut [u8], z: u8)
+    ensures { λ r. ⌜ now (s .exit) ≡ scaled F16 z (now (s .entry)) ⌝ }
+{
+    let row = field::row16(z);
+    for i in 0..s.len() {
+        let j = (s[i] % 16) as usize;
+        s[i] = row[j];
+    }
+}
+
+// Every share times z where z was opened, as Open's x_j and the last factor of an inversion are.
+pub fn scale_opened(f: u64, s: &mut [u8], z: u8)
+    ensures { λ r. ⌜ now (s .exit) ≡ scaled (fieldOf f) z (now (s .entry)) ⌝ }
+{
+    if f == 16 {
+        look_up16(s, z);
     } else {
         scale256(s, z);
     }
@@ -556,7 +485,7 @@ pub fn blinded_value(f: u64, s: &[u8], nz: &[u8], ds: &[u8]) -> u8
     let mut copy = [0u8; 4];
     copy_into(&mut copy[..n], s);
     blind(f, &mut copy[..n], nz, ds);
-    opening(f, &copy[..n], &ds[at..])
+    opening(f, &mut copy[..n], &ds[at..])
 }
 
 // z_1..z_(n-1), then last, then 0.

@@ -8,7 +8,7 @@ ghost use lib.ListN.{length};
 ghost use Rattle.field.specs.Field.{fieldOf, sub};
 ghost use Rattle.sharing.specs.Run.{pairs};
 ghost use Rattle.sharing.specs.Lists.{joined};
-ghost use Rattle.sharing.specs.Rules.{flagDraws, blindedValue};
+ghost use Rattle.sharing.specs.Rules.{flagDraws, blindedValue, scaled};
 ghost use Rattle.table.specs.Layout.{Sizes, Place, cell, tableBytes, entry, columnsFrom};
 ghost use Rattle.table.specs.Steps.{signed, joinRow, joinRows, mix, check, scaleRow, scaleAll, scale, clear, opens, liftTurn, lift};
 ghost use Rattle.table.specs.Refreshing.{refreshRow};
@@ -154,7 +154,7 @@ pub fn check(
     let d = flag_draws(f, n);
     let mut flag = [0u8; 4];
     sharing::zero_flag(f, &mut flag[..n], &table[p..p + n], mask);
-    sharing::opening(f, &flag[..n], &mask[d..])
+    sharing::opening(f, &mut flag[..n], &mask[d..])
 }
 
 // Each entry refreshed, columns in order.
@@ -190,17 +190,28 @@ fn refresh_row(f: u64, n: usize, columns: usize, row: &mut [u8], mask: &[u8])
     }
 }
 
+// The whole row times z. Of a Scale's factors the last alone was opened, and may choose a row of the table of products.
+fn times(f: u64, row: &mut [u8], z: u8, opened: bool)
+    ensures { λ r. ⌜ now (row .exit) ≡ scaled (fieldOf f) z (now (row .entry)) ⌝ }
+{
+    if opened {
+        sharing::scale_opened(f, row, z);
+    } else {
+        sharing::scale(f, row, z);
+    }
+}
+
 // One factor: the whole row times z, then each entry refreshed, as if column by column.
-fn scale_row(f: u64, n: usize, columns: usize, row: &mut [u8], z: u8, mask: &[u8])
+fn scale_row(f: u64, n: usize, columns: usize, row: &mut [u8], z: u8, opened: bool, mask: &[u8])
     requires { ⌜ (2 ≤ n) × (n ≤ 4) × (columns ≤ 97) ⌝ }
     requires { ⌜ (length (now row) ≡ columns * n) × (columns * (n - 1) ≤ length (now mask)) ⌝ }
     ensures { λ r. ⌜ now (row .exit) ≡ scaleRow (fieldOf f) n columns z (now (mask .entry)) (now (row .entry)) ⌝ }
 {
-    sharing::scale(f, row, z);
+    times(f, row, z, opened);
     refresh_row(f, n, columns, row, mask);
 }
 
-// Each factor in order.
+// Each factor in order; the last one is the inverse of what was opened.
 fn scale_all(f: u64, columns: usize, row: &mut [u8], factors: Factors, mask: &[u8])
     requires { ⌜ (2 ≤ factors .n) × (factors .n ≤ 4) × (columns ≤ 97) ⌝ }
     requires { ⌜ (length (now row) ≡ columns * factors .n) × (factors .n * (columns * (factors .n - 1)) ≤ length (now mask)) ⌝ }
@@ -208,11 +219,12 @@ fn scale_all(f: u64, columns: usize, row: &mut [u8], factors: Factors, mask: &[u
 {
     let n = factors.n;
     let list = factors.f;
-    let turn = columns * (n - 1);
+    let last = n - 1;
+    let turn = columns * last;
     let mut d: usize = 0;
     for i in 0..n {
         let z = list[i];
-        scale_row(f, n, columns, row, z, &mask[d..]);
+        scale_row(f, n, columns, row, z, i == last, &mask[d..]);
         d += turn;
     }
 }
@@ -286,7 +298,7 @@ pub fn clear(
     join_rows(f, true, n, rows, w, table, &copy[..n], k, r, j, mask);
 }
 
-// Open's first half: what stands in row r's last column, opened.
+// Open's first half: what stands in row r's last column, opened on a copy.
 pub fn open(f: u64, n: usize, rows: usize, w: usize, table: &[u8], r: usize, mask: &[u8]) -> u8
     requires { ⌜ Sizes n rows w ⌝ }
     requires { ⌜ Place rows w r w ⌝ }
@@ -294,7 +306,9 @@ pub fn open(f: u64, n: usize, rows: usize, w: usize, table: &[u8], r: usize, mas
     ensures { λ x. ⌜ x ≡ opens f n w r (now (mask .entry)) (now (table .entry)) ⌝ }
 {
     let p = cell(n, rows, w, r, w);
-    sharing::opening(f, &table[p..p + n], mask)
+    let mut copy = [0u8; 4];
+    sharing::copy_into(&mut copy[..n], &table[p..p + n]);
+    sharing::opening(f, &mut copy[..n], mask)
 }
 
 // T[i+1,w] -= x·T[i+1,j], share by share.
@@ -308,7 +322,7 @@ fn lift_row(f: u64, n: usize, rows: usize, w: usize, table: &mut [u8], j: usize,
     let p = cell(n, rows, w, i + 1, w);
     let mut copy = [0u8; 4];
     sharing::copy_into(&mut copy[..n], &table[o..o + n]);
-    sharing::scale(f, &mut copy[..n], x);
+    sharing::scale_opened(f, &mut copy[..n], x);
     join(f, true, &mut table[p..p + n], &copy[..n]);
 }
 

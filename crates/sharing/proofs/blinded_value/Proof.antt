@@ -45,8 +45,8 @@ slice-aggregate-blind c = let e = copied (c .before .before) in rw (take-at _ _ 
 blind-requires : tie.Need-blind-requires
 blind-requires c κs = let e = copied (c .before .before) in rw (take-at _ _ _ e, e) (search needs)
 
-array-share-prefix-copy : tie.Need-array-share-prefix-copy
-array-share-prefix-copy c = simp length-append (omega (arith, blind-length (c .before)))
+array-borrow-prefix-copy-3 : tie.Need-array-borrow-prefix-copy-3
+array-borrow-prefix-copy-3 c = simp length-append (omega (arith, blind-length (c .before)))
 
 slice-aggregate-opening : tie.Need-slice-aggregate-opening
 slice-aggregate-opening c = let e = blind-length (c .before .before) in rw (take-at _ _ _ e) (sym e)
@@ -68,9 +68,9 @@ opening-requires c κs = let e = blind-length (c .before .before .before) in rw 
 
 returns : tie.Need-returns
 unfolding blindedValue
-returns c = let p = c .before .before .before .before in
+returns c = let p = c .before .before .before .before .before in
     let q = p .before .before .before in
-    rw (rest, take-at _ _ _ (blind-length p), p .blind .ensures, take-at _ _ _ (copied q), q .copy-into .ensures) at (c .opening .ensures)
+    rw (rest, take-at _ _ _ (blind-length p), p .blind .ensures, take-at _ _ _ (copied q), q .copy-into .ensures) at (c .before .opening .ensures .0)
 
 pub blinded-value-spec : {M : Type 1} → statement M
 blinded-value-spec =
@@ -85,7 +85,7 @@ blinded-value-spec =
     array-borrow-prefix-copy-2
     slice-aggregate-blind
     blind-requires
-    array-share-prefix-copy
+    array-borrow-prefix-copy-3
     slice-aggregate-opening
     sub-opening
     part-opening-start

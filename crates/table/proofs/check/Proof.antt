@@ -59,8 +59,8 @@ zero-flag-requires c κs =
     rw (part-lent, c .before .before .before .cell .ensures, entry-length _ _ _ _ (s .pre .1 .1 .0) (s .pre .1 .0))
     (omega arith, omega arith, length-take-le _ _ (omega arith), omega (arith, room (c .before .before), c .before .before .flag-draws .ensures .0))
 
-array-share-prefix-flag : tie.Need-array-share-prefix-flag
-array-share-prefix-flag c = simp length-append (omega (arith, flagged (c .before)))
+array-borrow-prefix-flag-2 : tie.Need-array-borrow-prefix-flag-2
+array-borrow-prefix-flag-2 c = simp length-append (omega (arith, flagged (c .before)))
 
 slice-aggregate-opening : tie.Need-slice-aggregate-opening
 slice-aggregate-opening c = let e = flagged (c .before .before) in rw (take-at _ _ _ e) (sym e)
@@ -82,8 +82,8 @@ opening-requires c κs =
 returns : tie.Need-returns
 unfolding check
 returns c =
-    let z = c .before .before .before .before in
-    rw (rest, z .before .before .before .flag-draws .ensures .0, take-at _ _ _ (flagged z), z .zero-flag .ensures, part-lent, z .before .before .before .before .cell .ensures) at (c .opening .ensures)
+    let z = c .before .before .before .before .before in
+    rw (rest, z .before .before .before .flag-draws .ensures .0, take-at _ _ _ (flagged z), z .zero-flag .ensures, part-lent, z .before .before .before .before .cell .ensures) at (c .before .opening .ensures .0)
 
 pub check-spec : {M : Type 1} → statement M
 check-spec =
@@ -98,7 +98,7 @@ check-spec =
     part-zero-flag-start
     part-zero-flag-end
     zero-flag-requires
-    array-share-prefix-flag
+    array-borrow-prefix-flag-2
     slice-aggregate-opening
     sub-opening
     part-opening-start

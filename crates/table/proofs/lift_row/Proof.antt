@@ -22,8 +22,8 @@ within-p c = let s = c .before .before .before in omega (arith, cell-in (s .args
 copied : (c : tie.After-copy-into) → length (c .copy-into .last .0) ≡ c .before .before .before .before .before .before .before .args .n
 copied c = c .copy-into .kept .0 ∙ length-take-le _ _ (omega arith)
 
-times-x : (c : tie.After-scale) → length (c .scale .last .1 .0) ≡ c .before .before .before .before .before .before .before .before .before .before .args .n
-times-x c = let e = copied (c .before .before .before) in rw (take-at _ _ _ e) at (c .scale .kept .1 .0) ∙ e
+times-x : (c : tie.After-scale-opened) → length (c .scale-opened .last .1 .0) ≡ c .before .before .before .before .before .before .before .before .before .before .args .n
+times-x c = let e = copied (c .before .before .before) in rw (take-at _ _ _ e) at (c .scale-opened .kept .1 .0) ∙ e
 
 add-cell : tie.Need-add-cell
 add-cell c = search needs
@@ -61,11 +61,11 @@ copy-into-requires c κs = rw (lent-length _ _ _ (within-o (c .before .before .b
 array-borrow-prefix-copy-2 : tie.Need-array-borrow-prefix-copy-2
 array-borrow-prefix-copy-2 c = simp length-append (omega (arith, copied (c .before)))
 
-slice-aggregate-scale : tie.Need-slice-aggregate-scale
-slice-aggregate-scale c = let e = copied (c .before .before) in rw (take-at _ _ _ e) (sym e)
+slice-aggregate-scale-opened : tie.Need-slice-aggregate-scale-opened
+slice-aggregate-scale-opened c = let e = copied (c .before .before) in rw (take-at _ _ _ e) (sym e)
 
-scale-requires : tie.Need-scale-requires
-scale-requires c κs = search needs
+scale-opened-requires : tie.Need-scale-opened-requires
+scale-opened-requires c κs = search needs
 
 add-join : tie.Need-add-join
 add-join c = omega (arith, within-p (c .before .before .before .before .before .before .before .before))
@@ -98,7 +98,7 @@ returns c = let d = c .before .before .before .before .before .before in
     let e = d .before .before .before in
     let g = e .before .before .before .before in
     let x = g .before .before .before .args in
-    rw (put-lent (x .n) (g .cell2 .result) _ (x .table .now), c .before .before .join .ensures, take-at _ _ _ (times-x d), d .scale .ensures, take-at _ _ _ (copied e), e .copy-into .ensures, part-lent (x .n) (g .before .cell .result) (x .table .now), part-lent (x .n) (g .cell2 .result) (x .table .now), g .before .cell .ensures, g .cell2 .ensures)
+    rw (put-lent (x .n) (g .cell2 .result) _ (x .table .now), c .before .before .join .ensures, take-at _ _ _ (times-x d), d .scale-opened .ensures, take-at _ _ _ (copied e), e .copy-into .ensures, part-lent (x .n) (g .before .cell .result) (x .table .now), part-lent (x .n) (g .cell2 .result) (x .table .now), g .before .cell .ensures, g .cell2 .ensures)
 
 pub lift-row-spec : {M : Type 1} → statement M
 lift-row-spec =
@@ -116,8 +116,8 @@ lift-row-spec =
     part-copy-into-end
     copy-into-requires
     array-borrow-prefix-copy-2
-    slice-aggregate-scale
-    scale-requires
+    slice-aggregate-scale-opened
+    scale-opened-requires
     add-join
     sub-join
     part-join-start

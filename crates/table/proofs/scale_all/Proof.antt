@@ -14,11 +14,11 @@ use Rattle.table.proofs.scale_all.Statement.{statement}
 use Rattle.table.proofs.scale_all.Tie as tie
 
 abbrev Inv-loop : tie.InvT-loop
-Inv-loop f columns row₀ mask n list turn d₀ i₀ row d i =
+Inv-loop f columns row₀ mask n list last turn d₀ i₀ row d i =
     (i ≤ n) × (d ≡ i * turn) × (length row ≡ length row₀) × (row ≡ run (factorTurn (fieldOf f) n columns list mask) i row₀)
 
 abbrev μ-loop : tie.MeasureT-loop
-μ-loop f columns row₀ mask n list turn d₀ i₀ row d i = n - i
+μ-loop f columns row₀ mask n list last turn d₀ i₀ row d i = n - i
 
 -- the draws of one more factor are there
 room : (c : tie.In-loop Inv-loop μ-loop)
@@ -29,8 +29,8 @@ room c =
     let s = c .before .before .before .before .before in
     taken-room (l .d) (l .i) (s .args .columns * (s .args .factors .n - 1)) (s .args .factors .n) (l .inv .1) (c .loop-test .taken) (s .pre .1 .1)
 
-sub-turn : tie.Need-sub-turn Inv-loop μ-loop
-sub-turn c = omega arith
+sub-last : tie.Need-sub-last Inv-loop μ-loop
+sub-last c = omega arith
 
 mul-turn : tie.Need-mul-turn Inv-loop μ-loop
 mul-turn c =
@@ -89,7 +89,7 @@ scale-all-spec =
     (tie.spec
     Inv-loop
     μ-loop
-    sub-turn
+    sub-last
     mul-turn
     loop-holds
     array-read-z

@@ -7,8 +7,8 @@ use borrow.Author.Needs.{needs}
 use Rattle.table.proofs.scale_row.Statement.{statement}
 use Rattle.table.proofs.scale_row.Tie as tie
 
-scale-requires : tie.Need-scale-requires
-scale-requires c κs = search needs
+times-requires : tie.Need-times-requires
+times-requires c κs = search needs
 
 refresh-row-requires : tie.Need-refresh-row-requires
 refresh-row-requires c κs = search needs
@@ -19,8 +19,8 @@ same-length c = search needs
 returns : tie.Need-returns
 returns c =
     let s = c .before .before .before .before .before .before .before .before .before .before in
-    (rw (c .before .before .before .before .before .before .scale .ensures) at (c .before .before .refresh-row .ensures))
+    (rw (c .before .before .before .before .before .before .times .ensures) at (c .before .before .refresh-row .ensures))
     ∙ refresh-scaled (fieldOf (s .args .f)) (s .args .n) (s .args .columns) (s .args .z) _ _ (s .pre .1 .0)
 
 pub scale-row-spec : {M : Type 1} → statement M
-scale-row-spec = tie.close (tie.spec scale-requires refresh-row-requires same-length returns)
+scale-row-spec = tie.close (tie.spec times-requires refresh-row-requires same-length returns)
