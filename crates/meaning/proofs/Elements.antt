@@ -4,10 +4,10 @@ use mathlib.Core.Path.{_≡_, refl, sym, ap, _∙_}
 use Prim.Native.Nat.{ℕ, _%_, _<_, Fin}
 use native.Mathlib.Nat.{mod-mod, mod-eq-of-lt}
 use native.Mathlib.Decide.{Fin·val-path}
-use Rattle.field.specs.Field.{Ops, Ring, Field, inv, inverseBelow, fieldOf}
+use Rattle.field.specs.Field.{Ops, Field, inv, inverseBelow, fieldOf}
 use Rattle.field.proofs.Inverses.{mul-left, mul-inv, inv-lt}
 use Rattle.field.proofs.Fields.{field-of}
-use Rattle.sharing.proofs.Rings.{add-left, add-right, add-cancel, add-zero-lt}
+use Rattle.sharing.proofs.Rings.{add-left, add-right, add-zero-lt, neg-mod}
 use Rattle.algebra.specs.Field.{Ops as Operations}
 use Rattle.algebra.specs.Laws.{Field as AnyField}
 use Rattle.algebra.specs.Numbers.{norm, numbers, Plain}
@@ -40,12 +40,6 @@ module _ (F : Ops) (L : Field F) where
   mul-mods : (a b : ℕ) → F .mul (a % F .q) (b % F .q) ≡ F .mul a b
   mul-mods a b =
       mul-left F L a (b % F .q) ∙ L .ring .mul-comm a (b % F .q) ∙ mul-left F L b a ∙ L .ring .mul-comm b a
-
-  neg-mod : (a : ℕ) → F .neg (a % F .q) ≡ F .neg a
-  neg-mod a =
-      let R : Ring F = L .ring in
-      add-cancel F R a (R .neg-lt (a % F .q)) (R .neg-lt a)
-      (sym (add-left F R a (F .neg (a % F .q))) ∙ R .add-neg (a % F .q) ∙ sym (R .add-neg a))
 
   inv-mod : (a : ℕ) → inv F (a % F .q) ≡ inv F a
   unfolding inv
@@ -89,7 +83,7 @@ module _ (f : ℕ) where
 
   pub of-neg : (a : ℕ) → of (F .neg a) ≡ O .neg (of a)
   unfolding of K
-  of-neg a = ap (norm pos) (sym (neg-mod F (field-of f) a))
+  of-neg a = ap (norm pos) (sym (neg-mod F (field-of f .ring) a))
 
   pub of-inv : (a : ℕ) → of (inv F a) ≡ O .inv (of a)
   unfolding of K

@@ -41,6 +41,11 @@ module _ (F : Ops) (R : Ring F) where
   pub add-cancel : (a : ℕ) {b c : ℕ} → b < F .q → c < F .q → F .add a b ≡ F .add a c → b ≡ c
   add-cancel a hb hc e = sym (neg-add a hb) ∙ ap (F .add (F .neg a)) e ∙ neg-add a hc
 
+  pub neg-mod : (a : ℕ) → F .neg (a % F .q) ≡ F .neg a
+  neg-mod a =
+      add-cancel a (R .neg-lt (a % F .q)) (R .neg-lt a)
+      (sym (add-left a (F .neg (a % F .q))) ∙ R .add-neg (a % F .q) ∙ sym (R .add-neg a))
+
   -- the opposite of a sum
   pub neg-sum : (a b : ℕ) → F .neg (F .add a b) ≡ F .add (F .neg a) (F .neg b)
   neg-sum a b =

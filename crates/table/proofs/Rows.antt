@@ -11,13 +11,13 @@ use native.Mathlib.Nat.{mod-lt, div-add-mod', mul-le-mul, mul-le-mul-right}
 use lib.ListN.{length, getD, take, drop, length-drop}
 use lib.Seq.{getD-take, take-append-le, drop-append-le}
 use Rattle.field.specs.Field.{Ring, fieldOf}
-use Rattle.field.proofs.Fields.{field-of, sub-add}
+use Rattle.field.proofs.Fields.{field-of}
 use Rattle.sharing.specs.Run.{tab, pairs}
 use Rattle.sharing.specs.Rules.{product}
 use Rattle.sharing.specs.Lists.{joined}
 use Rattle.sharing.proofs.Loops.{run-ext}
 use Rattle.sharing.proofs.Pairs.{tab-at, tab-length, tab-ext, tab-list}
-use Rattle.sharing.proofs.Rings.{add-right}
+use Rattle.sharing.proofs.Rings.{add-right, neg-mod}
 use Rattle.row.specs.Shares.{Products}
 use Rattle.table.specs.Layout.{part, put}
 use Rattle.table.specs.Steps.{signed, overColumns, joinTurn, joinRow}
@@ -34,14 +34,11 @@ module _ (f : ℕ) where
   R : Ring (fieldOf f)
   R = field-of f .ring
 
-  signed-add : (minus : Bool) (a b : ℕ) → signed (fieldOf f) minus a b ≡ fieldOf f .add a b
-  unfolding signed
-  signed-add true a b = sub-add f a b
-  signed-add false a b = refl
-
   signed-same : (minus : Bool) (a b c : ℕ) → b % fieldOf f .q ≡ c % fieldOf f .q → signed (fieldOf f) minus a b ≡ signed (fieldOf f) minus a c
-  signed-same minus a b c e =
-      signed-add minus a b ∙ sym (add-right (fieldOf f) R a b) ∙ ap (fieldOf f .add a) e ∙ add-right (fieldOf f) R a c ∙ sym (signed-add minus a c)
+  unfolding signed
+  signed-same true a b c e =
+      ap (fieldOf f .add a) (sym (neg-mod (fieldOf f) R b) ∙ ap (fieldOf f .neg) e ∙ neg-mod (fieldOf f) R c)
+  signed-same false a b c e = sym (add-right (fieldOf f) R a b) ∙ ap (fieldOf f .add a) e ∙ add-right (fieldOf f) R a c
 
   -- ---- the row
 
