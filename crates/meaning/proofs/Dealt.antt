@@ -7,13 +7,16 @@ use mathlib.Core.List.{List}
 use native.Mathlib.Omega.{arith}
 use native.Mathlib.Nat.{mod-eq-of-lt, suc-mul, mul-le-mul-right}
 use lib.ListN.{length, getD, drop}
-use Rattle.field.specs.Field.{fieldOf}
+use Rattle.field.specs.Field.{Ring, fieldOf}
 use Rattle.field.proofs.Fields.{field-of}
 use Rattle.sharing.specs.Run.{tab}
 use Rattle.sharing.specs.Rules.{sum, drawAt}
+use Rattle.sharing.specs.Lists.{Below}
 use Rattle.sharing.proofs.Pairs.{tab-length, tab-ext, tab-list}
+use Rattle.sharing.proofs.Elements.{cons-below, tab-below, draw-lt}
 use Rattle.sharing.proofs.Sums.{sum-dealt}
 use Rattle.table.specs.Layout.{cell, tableBytes, part}
+use Rattle.table.proofs.Elements.{columns-anew}
 use Rattle.table.proofs.Columns.{Keeps, overColumns-length, overColumns-at}
 use Rattle.course.specs.declared.Order.{Order}
 use Rattle.walk.specs.Act.{held}
@@ -34,7 +37,7 @@ module _ (f n : ℕ) (some : 0 < n) (vs ds : List ℕ) where
       }
 
   module _ (k : ℕ) (t : List ℕ) (lt : length t ≡ k * n) where
-    dealt-length : length (dealt f n k vs ds t) ≡ k * n
+    pub dealt-length : length (dealt f n k vs ds t) ≡ k * n
     unfolding dealt
     dealt-length = overColumns-length n (dealTurn f n vs ds) turn-keeps k t lt
 
@@ -44,6 +47,15 @@ module _ (f n : ℕ) (some : 0 < n) (vs ds : List ℕ) where
     dealt-sum e h =
         ap (sum (fieldOf f)) (overColumns-at n (dealTurn f n vs ds) turn-keeps k t lt e h)
         ∙ sum-dealt (fieldOf f) (field-of f .ring) (getD vs e 0) (tab (n - 1) (drawAt (fieldOf f) (drop (e * (n - 1)) ds)))
+
+    -- Deal gives a table of elements, whatever its target held
+    pub dealt-below : Below (fieldOf f .q) (dealt f n k vs ds t)
+    unfolding dealt dealTurn dealtEntry
+    dealt-below =
+        let R : Ring (fieldOf f) = field-of f .ring in
+        columns-anew (R .pos) n some (dealTurn f n vs ds) turn-keeps
+        (λ e old. cons-below (R .add-lt _ _) (tab-below (R .pos) (n - 1) _ (draw-lt (fieldOf f) R (drop (e * (n - 1)) ds))))
+        k t lt
 
     -- Gather after Deal gives the values back
     pub gather-deal : length vs ≡ k → ((e : ℕ) → e < k → getD vs e 0 < fieldOf f .q) → gathered f n k (dealt f n k vs ds t) ≡ vs

@@ -14,7 +14,8 @@ use Rattle.sharing.specs.Rules.{drawAt, crossed, productOver, product}
 use Rattle.row.specs.Spread.{spreadAll}
 use Rattle.row.specs.Products.{term, allProducts}
 use Rattle.row.specs.Gather.{later, gathered, gatherAll}
-use Rattle.row.specs.Shares.{ownDraws, Below, Products}
+use Rattle.sharing.specs.Lists.{Below}
+use Rattle.row.specs.Shares.{ownDraws, Products}
 use Rattle.row.proofs.Streaming.{stream, stream-at, stream-next}
 use Rattle.row.proofs.Spreading.{spread-own, spread-pair, spread-none, spread-length}
 use Rattle.row.proofs.Producing.{products-at}

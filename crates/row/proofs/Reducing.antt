@@ -2,9 +2,8 @@
 -- Assumes nothing.
 use mathlib.Core.Path.{_≡_, refl, ap, _∙_}
 use mathlib.Core.Bool.{Bool}
-use Prim.Native.Nat.{ℕ, zero, suc, _*_, _%_, _<_}
+use Prim.Native.Nat.{ℕ, _*_, _%_}
 use mathlib.Core.List.{List}
-use native.Mathlib.Nat.{mod-lt}
 use lib.ListN.{length, getD, take, drop}
 use borrow.Author.Tests.{ne-eqb}
 use Rattle.field.specs.Field.{Ops, Field, F16, F256, fieldOf, pick}
@@ -13,17 +12,14 @@ use Rattle.field.proofs.Inverses.{mul-left}
 use Rattle.sharing.specs.Run.{tab, pairs}
 use Rattle.sharing.specs.Rules.{drawAt, product}
 use Rattle.sharing.proofs.Pairs.{tab-at, tab-length}
+use Rattle.sharing.specs.Lists.{Below}
 use Rattle.sharing.proofs.Draws.{productOver-ext}
-use Rattle.row.specs.Shares.{Below, Products}
-
-tab-below : (q : ℕ) → 0 < q → (k : ℕ) (g : ℕ → ℕ) → ((i : ℕ) → g i < q) → (i : ℕ) → getD (tab k g) i 0 < q
-tab-below q h zero g l i = h
-tab-below q h (suc k) g l zero = l 0
-tab-below q h (suc k) g l (suc i) = tab-below q h k (λ i. g (suc i)) (λ i. l (suc i)) i
+use Rattle.sharing.proofs.Elements.{draw-lt, tab-below}
+use Rattle.row.specs.Shares.{Products}
 
 module _ (F : Ops) (L : Field F) (factor : List ℕ) where
   pub reduced-below : Below (F .q) (tab (length factor) (drawAt F factor))
-  reduced-below = record { at = tab-below (F .q) (L .ring .pos) (length factor) (drawAt F factor) (λ i. mod-lt (getD factor i 0) (L .ring .pos)) }
+  reduced-below = tab-below (L .ring .pos) (length factor) (drawAt F factor) (draw-lt F (L .ring) factor)
 
   product-reduced : (ds e : List ℕ) → product F ds (tab (length factor) (drawAt F factor)) e ≡ product F ds factor e
   unfolding product

@@ -20,10 +20,6 @@ pairSum n Z P s i = bitXor (bitXor (Z (before n i + (s - suc i))) (P i s)) (P s 
 unfoldable pub shareSum : ℕ → (ℕ → ℕ) → (ℕ → ℕ → ℕ) → ℕ → ℕ
 shareSum n Z P s = run (λ i x. bitXor x (pairSum n Z P s i)) s (bitXor (ownDraws n Z s) (P s s))
 
--- every share is below q
-pub record Below (q : ℕ) (a : List ℕ) : Type 0 where
-  pub at : (i : ℕ) → getD a i 0 < q
-
 -- the entries of a row, n bytes each, have become Product(factor, entry), modulo q
 pub record Products (F : Ops) (n columns : ℕ) (ds factor row out : List ℕ) : Type 0 where
   pub at : (u s : ℕ) → u < columns → s < n

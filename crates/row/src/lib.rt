@@ -15,11 +15,12 @@ ghost use lib.ListN.{length};
 ghost use Rattle.field.specs.Field.{fieldOf, draw};
 ghost use Rattle.sharing.specs.Run.{run, tab, before, pairs, pairsOf, overPairs};
 ghost use Rattle.sharing.specs.Rules.{drawAt};
+ghost use Rattle.sharing.specs.Lists.{Below};
 ghost use Rattle.row.specs.Streams.{doubled, onceTurn, repeated, doubledRows};
 ghost use Rattle.row.specs.Spread.{spreadTurn, spreadAll};
 ghost use Rattle.row.specs.Products.{term, byteProducts, productTurn, allProducts};
 ghost use Rattle.row.specs.Gather.{gathered, blockTurn, gatherAll};
-ghost use Rattle.row.specs.Shares.{Below, Products};
+ghost use Rattle.row.specs.Shares.{Products};
 
 mod later;
 

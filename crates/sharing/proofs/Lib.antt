@@ -9,3 +9,4 @@ pub mod Inverting
 pub mod Draws
 pub mod AndPasses
 pub mod Folding
+pub mod Elements

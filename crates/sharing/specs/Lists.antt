@@ -1,5 +1,5 @@
 -- What the laws of the small rules are stated with, besides the rules: sharings joined share by share, the product of a list, the flag of a
--- value, and tapes that agree on their first draws.
+-- value, lists of elements, and tapes that agree on their first draws.
 -- Assumes nothing.
 use mathlib.Core.Path.{_≡_}
 use Prim.Native.Nat.{ℕ, _<_}
@@ -22,6 +22,10 @@ productAll F (x ∷ fs) = F .mul x (productAll F fs)
 -- the flag of a value: 1 for 0, and 0 for any other
 unfoldable pub flagOf : ℕ → ℕ
 flagOf v = pick (eqb v 0) 1 0
+
+-- every number of a list is below q: with a field's own q they are elements
+pub record Below (q : ℕ) (s : List ℕ) : Type 0 where
+  pub at : (i : ℕ) → getD s i 0 < q
 
 -- the first k draws of two tapes are the same
 pub record SameDraws (F : Ops) (k : ℕ) (ds es : List ℕ) : Type 0 where

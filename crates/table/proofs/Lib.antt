@@ -11,3 +11,4 @@ pub mod CostBounds
 pub mod Scaling
 pub mod Lent
 pub mod Rows
+pub mod Elements

@@ -1,4 +1,5 @@
--- What a step of the list asks of the table: its sizes and the places that the step meets. And that it keeps the lengths of what it is lent.
+-- What a step of the list asks of the table: its sizes and the places that the step meets. And what it keeps: the lengths of what it is lent,
+-- elements as elements.
 -- Assumes nothing.
 use mathlib.Core.Bool.{true}
 use mathlib.Core.List.{List}
@@ -6,8 +7,11 @@ use mathlib.Core.Path.{_≡_, refl, _∙_}
 use Prim.Native.Nat.{ℕ, _+_, _-_, _<_, _≤_}
 use native.Mathlib.Omega.{arith}
 use lib.ListN.{length, length-set}
+use Rattle.field.specs.Field.{fieldOf}
+use Rattle.sharing.specs.Lists.{Below}
 use Rattle.table.specs.Layout.{Sizes as TableSizes, Place, tableBytes}
 use Rattle.table.proofs.Lengths.{mix-length, scale-length, clear-length, lift-length}
+use Rattle.table.proofs.Elements.{mix-below, scale-below, clear-below, lift-below}
 use Rattle.course.specs.declared.Step.{Step}
 use Rattle.course.specs.declared.Step.the-variants.{Mix, Check, Scale, Clear, Open}
 use Rattle.course.specs.declared.Order.{Order}
@@ -60,3 +64,12 @@ module _ (o : Order) where
   pub acted-length : (s : Step) → inList m s ≡ true → (ds nz : List ℕ) (h : Held) → Lengths o h → Lengths o (acted o s ds nz h)
   acted-length s i ds nz h l =
       record { table = acted-sized s (within m s i) ds nz h (l .table); solution = acted-places s ds nz h ∙ l .solution }
+
+  pub acted-below : (s : Step) (ds nz : List ℕ) (h : Held) → Below (fieldOf (o .field) .q) (h .table)
+      → Below (fieldOf (o .field) .q) (acted o s ds nz h .table)
+  unfolding acted
+  acted-below (Mix j k) ds nz h b = mix-below (o .field) (o .shares) (m + 1) j j k ds (h .table) b
+  acted-below (Check j) ds nz h b = b
+  acted-below (Scale j) ds nz h b = scale-below (o .field) (o .shares) (m + 1) j j nz ds (h .table) b
+  acted-below (Clear j k) ds nz h b = clear-below (o .field) (o .shares) (m + 1) j j k ds (h .table) b
+  acted-below (Open j) ds nz h b = lift-below (o .field) (o .shares) (m + 1) j j (opened o (Open j) ds h) (h .table) b
