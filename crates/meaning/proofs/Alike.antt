@@ -1,5 +1,5 @@
 -- The answer is determined by the values alone: two solves whose shares add up to the same equations answer alike, whatever the shares, their
--- number and the tapes are.
+-- number and the tapes are. Of one order they also count alike.
 -- Assumes nothing.
 use mathlib.Core.Path.{_≡_, refl, sym, ap, ap₂, _∙_, subst}
 use Prim.Native.Nat.{ℕ, zero, suc, _+_, _-_, _%_, _<_, _≤_}
@@ -11,10 +11,12 @@ use lib.ListN.{getD}
 use lib.Seq.{ext-getD}
 use Rattle.field.specs.Field.{Ops, fieldOf}
 use Rattle.course.specs.declared.Order.{Order}
+use Rattle.course.specs.StepList.{upTo, sums}
 use Rattle.walk.specs.declared.Ending.{Ending}
 use Rattle.walk.specs.declared.Ending.the-variants.{Solved, Stopped}
 use Rattle.walk.specs.Act.{held}
-use Rattle.walk.specs.Walk.{solved}
+use Rattle.walk.specs.Walk.{solved, Counters}
+use Rattle.walk.proofs.Counted.{solved-counters}
 use Rattle.meaning.specs.Meaning.{valueOf, combination, Combines, IsSolved, Means}
 use Rattle.meaning.proofs.Meant.{Lent, Left, meant, left}
 
@@ -116,3 +118,22 @@ alike o p ms zs t x ns ys u y l k s =
     (means-same s a z (meant o ms zs t x l))
     (subst (λ (m : ℕ). Left m a z) (s .size) (left o ms zs t x l))
     (meant p ns ys u y k) (left p ns ys u y k)
+
+-- the same answer, with the counters of one order
+counted-same : (o : Order) (a b : Ending) → Same a b → Counters o a → Counters o b → a ≡ b
+counted-same o (Solved c) (Solved d) s x y = ap Solved (x ∙ sym y)
+counted-same o (Solved c) (Stopped j d) s x y = absurd s
+counted-same o (Stopped i c) (Solved d) s x y = absurd s
+counted-same o (Stopped i c) (Stopped j d) s x y = ap₂ Stopped s (x ∙ ap (λ (k : ℕ). sums o (upTo (o .size) k)) s ∙ sym y)
+
+-- in one order neither the shares nor the tapes change the answer, its counters or the solution
+pub answer-alike : (o : Order) (ms zs t x ns ys u y : List ℕ) → Lent o zs t x → Lent o ys u y → SameValues o o t u
+    → (solved o ms zs (held t x) .answer ≡ solved o ns ys (held u y) .answer)
+    × (solved o ms zs (held t x) .left .solution ≡ solved o ns ys (held u y) .left .solution)
+answer-alike o ms zs t x ns ys u y l k s =
+    let both = alike o o ms zs t x ns ys u y l k s in (
+      counted-same o (solved o ms zs (held t x) .answer) (solved o ns ys (held u y) .answer) (both .0)
+          (solved-counters o ms zs (l .sizes .some) (held t x))
+          (solved-counters o ns ys (k .sizes .some) (held u y)),
+      both .1,
+    )

@@ -1,4 +1,4 @@
--- Demand 2 of the call: whatever meets solve's equation has its meaning.
+-- Demands 2 and 3 of the call: whatever meets solve's equation has its meaning, and its counters are 01's sums.
 -- Assumes nothing.
 use mathlib.Core.List.{List}
 use mathlib.Core.Path.{_≡_, refl, sym, ap, _∙_, subst}
@@ -11,11 +11,12 @@ use Rattle.course.specs.StepList.{fullNonzero}
 use Rattle.walk.specs.declared.Ending.{Ending}
 use Rattle.walk.specs.Act.{Held, held}
 use Rattle.walk.specs.Walk.{solved}
+use Rattle.walk.proofs.Counted.{solved-counters}
 use Rattle.meaning.proofs.Walked.{NoZero}
 use Rattle.meaning.proofs.Meant.{Lent, meant}
 use Rattle.solver.specs.Told.{Told, passed, refused}
 use Rattle.solver.specs.Refusals.{solveOrder}
-use Rattle.solver.specs.Calls.{Says, Outcome, after, call, solveDoes, solveCall, Tells}
+use Rattle.solver.specs.Calls.{Says, Outcome, after, call, solveDoes, solveCall, Tells, Taken}
 use Rattle.solver.proofs.Ready.{Solvable, solvable, no-zero}
 
 module _ (o : Order) (t x mask nonzero : List ℕ) where
@@ -39,3 +40,15 @@ module _ (o : Order) (t x mask nonzero : List ℕ) where
   means a h e =
       subst (λ (l : Outcome Ending Held). Tells o t (l .says) (l .left .solution)) (sym e)
       (told (solveOrder o t (length x) (length mask) nonzero) refl)
+
+  counted : (w : Told) → solveOrder o t (length x) (length mask) nonzero ≡ w
+      → Taken o (call w (held t x) (solveDoes (solved o mask nonzero (held t x))) .says)
+  unfolding call
+  counted passed e =
+      solved-counters o mask nonzero (solvable o t (length x) (length mask) nonzero e .sizes .some) (held t x)
+  counted (refused l) e = tt
+
+  pub takes : (a : Says Ending) (h : Held) → after a h ≡ solveCall o (held t x) mask nonzero → Taken o a
+  unfolding solveCall
+  takes a h e =
+      subst (λ (l : Outcome Ending Held). Taken o (l .says)) (sym e) (counted (solveOrder o t (length x) (length mask) nonzero) refl)

@@ -69,11 +69,12 @@ sized o e =
     }
 
 -- 4 to 6 passed
-pub record Buffers (wanted : ℕ) (input : List ℕ) (target long : ℕ) : Type 0 where
+pub record Buffers (f wanted : ℕ) (input : List ℕ) (target long : ℕ) : Type 0 where
   pub whole : length input ≡ wanted
   pub room : long ≡ target
+  pub elements : no6 f input ≡ passed
 
-pub buffered : (f wanted : ℕ) (input : List ℕ) (target long : ℕ) → buffers f wanted input target long ≡ passed → Buffers wanted input target long
+pub buffered : (f wanted : ℕ) (input : List ℕ) (target long : ℕ) → buffers f wanted input target long ≡ passed → Buffers f wanted input target long
 unfolding buffers no4 no5
 buffered f wanted input target long e =
     let a = no4 wanted (length input) in
@@ -82,6 +83,7 @@ buffered f wanted input target long e =
     record {
       whole = same wanted (length input) 4 _ (left a b two);
       room = same target long 5 _ (right a b two);
+      elements = right (a or b) (no6 f input) e;
     }
 
 -- the table is as long as its entries' sharings
@@ -99,7 +101,7 @@ sharing-small k n h g = mul-le-mul {n₁ = k} {m₁ = n} {n₂ = 9312} {m₂ = 4
 -- Deal's checks passed
 pub record Dealing (o : Order) (values : List ℕ) (target mask : ℕ) : Type 0 where
   pub sizes : Sizes o
-  pub lent : Buffers (entries (o .size)) values (wholeTable o) target
+  pub lent : Buffers (o .field) (entries (o .size)) values (wholeTable o) target
   pub drawn : dealDraws o ≤ mask
 
 pub dealing : (o : Order) (values : List ℕ) (target mask : ℕ) → dealOrder o values target mask ≡ passed → Dealing o values target mask
@@ -116,7 +118,7 @@ dealing o values target mask e =
 -- Gather's checks passed
 pub record Gathering (o : Order) (t : List ℕ) (target : ℕ) : Type 0 where
   pub sizes : Sizes o
-  pub lent : Buffers (wholeTable o) t (entries (o .size)) target
+  pub lent : Buffers (o .field) (wholeTable o) t (entries (o .size)) target
 
 pub gathering : (o : Order) (t : List ℕ) (target : ℕ) → gatherOrder o t target ≡ passed → Gathering o t target
 unfolding gatherOrder
@@ -128,7 +130,7 @@ gathering o t target e = record {
 -- Solve's checks passed
 pub record Solvable (o : Order) (t : List ℕ) (solution mask : ℕ) (nonzero : List ℕ) : Type 0 where
   pub sizes : Sizes o
-  pub lent : Buffers (wholeTable o) t (o .size) solution
+  pub lent : Buffers (o .field) (wholeTable o) t (o .size) solution
   pub masks : fullMask o ≤ mask
   pub others : fullNonzero o ≤ length nonzero
   pub nonzeros : no9 (o .field) (take (fullNonzero o) nonzero) ≡ passed
@@ -172,12 +174,13 @@ placing-says o place table solution e =
     }
 
 -- 6 to 9 passed
-pub record Supplied (o : Order) (place : Place) (mask : ℕ) (nonzero : List ℕ) : Type 0 where
+pub record Supplied (o : Order) (place : Place) (t : List ℕ) (mask : ℕ) (nonzero : List ℕ) : Type 0 where
+  pub elements : no6 (o .field) t ≡ passed
   pub masks : mask ≡ maskAt o place
   pub others : length nonzero ≡ nonzeroAt o place
   pub nonzeros : no9 (o .field) nonzero ≡ passed
 
-pub lending-says : (o : Order) (place : Place) (t : List ℕ) (mask : ℕ) (nonzero : List ℕ) → lending o place t mask nonzero ≡ passed → Supplied o place mask nonzero
+pub lending-says : (o : Order) (place : Place) (t : List ℕ) (mask : ℕ) (nonzero : List ℕ) → lending o place t mask nonzero ≡ passed → Supplied o place t mask nonzero
 unfolding lending no7step no8step
 lending-says o place t mask nonzero e =
     let a = no6 (o .field) t in
@@ -186,6 +189,7 @@ lending-says o place t mask nonzero e =
     let f = no9 (o .field) nonzero in
     let three : a or b or d ≡ passed = left (a or b or d) f e in
     record {
+      elements = left a b (left (a or b) d three);
       masks = same (maskAt o place) mask 7 _ (right a b (left (a or b) d three));
       others = same (nonzeroAt o place) (length nonzero) 8 _ (right (a or b) d three);
       nonzeros = right (a or b or d) f e;
@@ -195,7 +199,7 @@ lending-says o place t mask nonzero e =
 pub record Going (o : Order) (place : Place) (t : List ℕ) (solution mask : ℕ) (nonzero : List ℕ) : Type 0 where
   pub sizes : Sizes o
   pub at : Placed o place (length t) solution
-  pub lent : Supplied o place mask nonzero
+  pub lent : Supplied o place t mask nonzero
 
 pub going : (o : Order) (place : Place) (t : List ℕ) (solution mask : ℕ) (nonzero : List ℕ) → stepOrder o place t solution mask nonzero ≡ passed → Going o place t solution mask nonzero
 unfolding stepOrder

@@ -17,7 +17,7 @@ use Rattle.course.specs.Next.{nextOf, startOf}
 use Rattle.walk.specs.declared.Ending.{Ending}
 use Rattle.walk.specs.declared.Ending.the-variants as E
 use Rattle.walk.specs.Act.{Held, held, opened, acted}
-use Rattle.walk.specs.Walk.{Solution, solved}
+use Rattle.walk.specs.Walk.{Solution, solved, Counters}
 use Rattle.walk.specs.Dealing.{dealt, gathered}
 use Rattle.meaning.specs.Meaning.{Means}
 use Rattle.solver.specs.declared.Starting.{Starting}
@@ -113,6 +113,11 @@ solveCall o h mask nonzero =
 abbrev pub Tells : Order → List ℕ → Says Ending → List ℕ → Type 0
 Tells o t (refuses l) x = Unit {0}
 Tells o t (gives e) x = Means o t e x
+
+-- demand 3: the counters of an answer that is no refusal are 01's sums over the step list, whatever was lent
+abbrev pub Taken : Order → Says Ending → Type 0
+Taken o (refuses l) = Unit {0}
+Taken o (gives e) = Counters o e
 
 -- ---- Step: moved, opened (with j and x_j), stopped (with j) or done (the last Open, j = 1, answers done with x_1)
 

@@ -5,7 +5,7 @@ mod checks;
 
 ghost use mathlib.Core.Path.{_≡_};
 ghost use Rattle.walk.specs.Act.{held};
-ghost use Rattle.solver.specs.Calls.{after, gives, order, startSays, startCall, countSays, countsCall, fillSays, dealCall, gatherCall, solveSays, solveCall, Tells, stepSays, stepCall, tells, lent};
+ghost use Rattle.solver.specs.Calls.{after, gives, order, startSays, startCall, countSays, countsCall, fillSays, dealCall, gatherCall, solveSays, solveCall, Tells, Taken, stepSays, stepCall, tells, lent};
 use checks::Verdict;
 use course::Counts;
 use course::Order;
@@ -156,7 +156,8 @@ fn ending(e: Ending) -> Solving
     }
 }
 
-// The whole solve. The first promise fixes the answer and every lent byte; the second says what the answer means.
+// The whole solve. The first promise fixes the answer and every lent byte; the second says what the answer means, and the third what its
+// counters are.
 pub fn solve(
     field: u64,
     shares: u64,
@@ -168,6 +169,7 @@ pub fn solve(
 ) -> Solving
     ensures outcome { λ r. ⌜ after (solveSays r) (held (now (table .exit)) (now (solution .exit))) ≡ solveCall (order field shares size) (held (now (table .entry)) (now (solution .entry))) (now (mask .entry)) (now (nonzero .entry)) ⌝ }
     ensures meaning { λ r. ⌜ Tells (order field shares size) (now (table .entry)) (solveSays r) (now (solution .exit)) ⌝ }
+    ensures counters { λ r. ⌜ Taken (order field shares size) (solveSays r) ⌝ }
 {
     let o = Order {
         field,

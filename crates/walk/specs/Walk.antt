@@ -2,6 +2,7 @@
 -- the places of these draws.
 -- Assumes nothing.
 use mathlib.Core.List.{List, [], _∷_}
+use mathlib.Core.Path.{_≡_}
 use Prim.Native.Nat.{ℕ, _+_}
 use lib.Dec.{eqb}
 use lib.ListN.{length, drop, replicate}
@@ -10,7 +11,7 @@ use Rattle.course.specs.declared.Step.{Step}
 use Rattle.course.specs.declared.Step.the-variants.{Mix, Check, Scale, Clear, Open}
 use Rattle.course.specs.declared.Order.{Order}
 use Rattle.course.specs.declared.Counts.{Counts}
-use Rattle.course.specs.StepList.{maskCost, nonzeroCost, stepList}
+use Rattle.course.specs.StepList.{maskCost, nonzeroCost, stepList, upTo, sums}
 use Rattle.walk.specs.declared.Ending.{Ending}
 use Rattle.walk.specs.declared.Ending.the-variants.{Solved, Stopped}
 use Rattle.walk.specs.Act.{Held, held, opened, acted}
@@ -77,3 +78,9 @@ fresh h = record { left = h; steps = 0; mask = 0; nonzero = 0 }
 
 unfoldable pub solved : Order → List ℕ → List ℕ → Held → Solution
 solved o ms zs h = conclude (walk o ms zs (stepList (o .size)) (running (fresh h)))
+
+-- 01: "three counters in the solve's result, proved equal to sums over the definition's step list": over the whole list where it is solved, and
+-- over every step up to and including Check(j) where it is stopped at j
+abbrev pub Counters : Order → Ending → Type 0
+Counters o (Solved c) = c ≡ sums o (stepList (o .size))
+Counters o (Stopped j c) = c ≡ sums o (upTo (o .size) j)

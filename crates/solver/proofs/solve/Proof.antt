@@ -1,4 +1,4 @@
--- `solver::solve` meets its contract: a pass gives the work what it asks for, and what meets the equation has its meaning.
+-- `solver::solve` meets its contract: a pass gives the work what it asks for, and what meets the equation has its meaning and its counters.
 -- Assumes nothing.
 use mathlib.Core.List.{List}
 use mathlib.Core.Path.{_≡_, _∙_}
@@ -7,18 +7,18 @@ use borrow.Author.Needs.{needs}
 use Rattle.course.specs.declared.Order.{Order}
 use Rattle.walk.specs.declared.Ending.{Ending}
 use Rattle.walk.specs.Act.{Held, held}
-use Rattle.solver.specs.Calls.{Says, after, order, solveCall, Tells}
-use Rattle.solver.proofs.Meaning.{means}
+use Rattle.solver.specs.Calls.{Says, after, order, solveCall, Tells, Taken}
+use Rattle.solver.proofs.Meaning.{means, takes}
 use Rattle.solver.proofs.Calls.{refuses-call, passes-call, solve-done}
 use Rattle.solver.proofs.Ready.{solvable, solve-ready}
 use Rattle.solver.proofs.Verdicts.{passes}
 use Rattle.solver.proofs.solve.Statement.{statement}
 use Rattle.solver.proofs.solve.Tie as tie
 
--- the equation, and its meaning
-both : (o : Order) (t x mask nonzero : List ℕ) (a : Says Ending) (h : Held) → after a h ≡ solveCall o (held t x) mask nonzero
-    → (after a h ≡ solveCall o (held t x) mask nonzero) × Tells o t a (h .solution)
-both o t x mask nonzero a h e = (e, means o t x mask nonzero a h e)
+-- the equation, its meaning and its counters
+all : (o : Order) (t x mask nonzero : List ℕ) (a : Says Ending) (h : Held) → after a h ≡ solveCall o (held t x) mask nonzero
+    → (after a h ≡ solveCall o (held t x) mask nonzero) × (Tells o t a (h .solution) × Taken o a)
+all o t x mask nonzero a h e = (e, (means o t x mask nonzero a h e, takes o t x mask nonzero a h e))
 
 solve-requires : tie.Need-solve-requires
 solve-requires c κs = search needs
@@ -42,7 +42,7 @@ returns : tie.Need-returns
 unfolding solveCall
 returns c =
     let s = c .before .before .before .before .before .before .before .before .before .args in
-    both (order (s .field) (s .shares) (s .size)) (s .table .now) (s .solution .now) (s .mask .now) (s .nonzero .now) _ _
+    all (order (s .field) (s .shares) (s .size)) (s .table .now) (s .solution .now) (s .mask .now) (s .nonzero .now) _ _
     (refuses-call _ _ _ _ _ (c .before .before .before .solve .ensures) (c .before .r .given .1))
 
 same-length-2 : tie.Need-same-length-2
@@ -56,7 +56,7 @@ unfolding solveCall
 returns-2 c =
     let checked = c .before .before .before .before .before .before .before .before in
     let s = checked .before .before .before .before .before .before .before .before .args in
-    both (order (s .field) (s .shares) (s .size)) (s .table .now) (s .solution .now) (s .mask .now) (s .nonzero .now) _ _
+    all (order (s .field) (s .shares) (s .size)) (s .table .now) (s .solution .now) (s .mask .now) (s .nonzero .now) _ _
     (solve-done _ _ _ _ _ (c .ending .ensures) (c .before .before .before .before .before .solve2 .ensures)
     ∙ passes-call _ _ _ _ (checked .before .before .solve .ensures) (checked .enum-told .given .1))
 
