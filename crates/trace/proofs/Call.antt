@@ -1,6 +1,6 @@
 -- What one step call leaves a host with: all as it was, where it is refused; else the work of the record's step, and the next record.
 -- Assumes nothing.
-use mathlib.Core.List.{append-nil}
+use mathlib.Core.List.{List, append-nil}
 use mathlib.Core.Logic.{_⊎_, inl, inr}
 use mathlib.Core.Path.{_≡_, refl}
 use Prim.Native.Nat.{ℕ}
@@ -8,13 +8,26 @@ use native.Mathlib.Nat.{add-zero}
 use native.Mathlib.Omega.{arith}
 use lib.ListN.{length}
 use Rattle.course.specs.declared.Step.{Step}
+use Rattle.course.specs.declared.Step.the-variants.{Mix, Check, Scale, Clear, Open}
 use Rattle.course.specs.declared.Place.{Place}
 use Rattle.course.specs.declared.Place.the-variants.{At, Stopped, Done}
+use Rattle.course.specs.declared.Order.{Order}
+use Rattle.walk.specs.Act.{Held, opened, acted}
 use Rattle.solver.specs.Told.{Told, passed, refused, Line}
 use Rattle.solver.specs.Refusals.{placed, ended, maskAt, nonzeroAt, stepOrder}
 use Rattle.solver.specs.Calls.{refuses, call, stepDoes, stepCall}
-use Rattle.trace.specs.Trace.{Beside, Host, called, hostAfter, orderIn, Refused, Accepted}
-use Rattle.solver.proofs.Ready.{Going, going}
+use Rattle.trace.specs.Trace.{Beside, Host, called, lends, hostAfter, orderIn, written, Refused, Accepted}
+use Rattle.solver.proofs.Ready.{Going, going, no-zero}
+use Rattle.trace.proofs.Admitted.{six-says}
+
+-- a step writes the solution as 01 says
+pub acted-written : (o : Order) (s : Step) (ds nz : List ℕ) (h : Held) → acted o s ds nz h .solution ≡ written s (opened o s ds h) (h .solution)
+unfolding acted
+acted-written o (Mix j k) ds nz h = refl
+acted-written o (Check j) ds nz h = refl
+acted-written o (Scale j) ds nz h = refl
+acted-written o (Clear j k) ds nz h = refl
+acted-written o (Open j) ds nz h = refl
 
 module _ (h : Host) (c : Beside) where
   -- what the call's checks say
@@ -45,10 +58,13 @@ module _ (h : Host) (c : Beside) where
       place = e;
       listed = w .at .listed;
       table = w .at .whole;
+      elements = six-says (orderIn h .field) (h .table) (w .lent .elements);
+      solution = w .at .room;
       mask = w .lent .masks;
       nonzero = w .lent .others;
+      drawn = no-zero (orderIn h .field) (c .nonzero) (w .lent .nonzeros);
       says = rw (v, e);
-      after = rw (v, e);
+      after = rw (v, e, acted-written (orderIn h) s (c .mask) (c .nonzero) (lends h c));
     },
   )
   accepted-at (Stopped j) e w v =
@@ -60,7 +76,7 @@ module _ (h : Host) (c : Beside) where
       let z : _≡_ {A = ℕ} 0 1 = cc in
       absurd (let n : ⊥ = omega arith in n)
 
-  accepted-call : verdict ≡ passed → (s : Step) × Accepted h c s
+  pub accepted-call : verdict ≡ passed → (s : Step) × Accepted h c s
   accepted-call e =
       accepted-at (h .progress .place) refl
       (going (orderIn h) (h .progress .place) (h .table) (length (c .solution)) (length (c .mask)) (c .nonzero) e) e

@@ -1,6 +1,9 @@
 pub mod Verdict
+pub mod Admitted
 pub mod Call
 pub mod Own
 pub mod Pivot
 pub mod Reached
 pub mod Trace
+pub mod Progress
+pub mod Dealt

@@ -1,15 +1,17 @@
 -- What holds of a host however it was driven: the steps that it has done are the list's, in order, and the whole solve on tapes with its
--- draws comes by the same steps to the same table.
+-- draws comes by the same steps to the same table. P is the premise that each call so far lent the host's own solution: then the solve
+-- comes to the same solution too.
 -- Assumes nothing.
 use mathlib.Core.List.{List, [], _∷_, _++_, append-assoc}
 use mathlib.Core.Logic.{⊎-elim}
-use mathlib.Core.Path.{_≡_, refl, ap, _∙_}
-use Prim.Native.Nat.{ℕ, _+_, _≤_}
+use mathlib.Core.Path.{_≡_, refl, sym, ap, ap₂, _∙_}
+use Prim.Native.Nat.{ℕ, _+_, _-_, _≤_}
 use native.Mathlib.Nat.{le-refl, add-zero}
+use native.Mathlib.Decide.{decLt}
 use native.Mathlib.Omega.{arith}
-use lib.ListN.{length, drop, length-append}
-use lib.Seq.{drop-at}
-use Rattle.field.specs.Field.{fieldOf}
+use lib.ListN.{length, getD, drop, length-append, List·getD-append}
+use lib.Seq.{drop-at, getD-append-add}
+use Rattle.field.specs.Field.{draw, fieldOf}
 use Rattle.sharing.specs.Lists.{SameDraws}
 use Rattle.sharing.proofs.Draws.{same-drop, same-longer}
 use Rattle.course.specs.declared.Step.{Step}
@@ -18,14 +20,16 @@ use Rattle.course.specs.declared.Order.{Order}
 use Rattle.course.specs.declared.Counts.{Counts}
 use Rattle.course.specs.StepList.{Sizes, maskCost, nonzeroCost, stepList, sumOver, sums}
 use Rattle.course.specs.Next.{firstOf, after, nextOf, startOf, Chain}
+use Rattle.course.proofs.Within.{within}
 use Rattle.course.proofs.Chain.{unique, chain}
 use Rattle.course.proofs.Sums.{sum-append}
 use Rattle.course.proofs.Along.{resume, calm-resume, first-calm, resume-after, next-place, Along, start-along, turn-along}
 use Rattle.walk.specs.Act.{held}
 use Rattle.walk.specs.Walk.{Tally, running, spent, opens, walk, fresh}
-use Rattle.trace.specs.Trace.{Beside, Host, begin, lends, hostAfter, drive, orderIn, opensAt, stepped, Refused, Accepted, countsIn, Begins}
-use Rattle.trace.proofs.Call.{each-call}
+use Rattle.trace.specs.Trace.{Beside, Host, begin, lends, hostAfter, drive, orderIn, opensAt, written, stepped, NoneZero, Refused, Accepted, countsIn, Begins, Admitted, Own}
+use Rattle.trace.proofs.Call.{acted-written, each-call}
 use Rattle.trace.proofs.Own.{opened-own, table-own}
+use Rattle.walk.proofs.Acted.{acted-sized, acted-places, acted-below}
 use Rattle.walk.proofs.Walked.{courseOf, calm-course, settle-after, walk-append}
 use Rattle.trace.proofs.Pivot.{Firm, firm-first, firm-after}
 
@@ -51,19 +55,24 @@ abbrev pub tallyOf : Host → List ℕ → Tally
 tallyOf h v =
     record { left = held (h .table) v; steps = h .steps; mask = length (h .mask); nonzero = length (h .nonzero) }
 
-pub record Reached (o : Order) (t : List ℕ) (h : Host) : Type 0 where
+pub record Reached (P : Type 0) (o : Order) (t x : List ℕ) (h : Host) : Type 0 where
   pub along : Along o (h .progress .place) (h .steps) (length (h .mask)) (length (h .nonzero))
   -- the steps done, which any way on to the end makes up to the list
   pub steps : List Step
   pub whole : (rest : List Step) → Chain (o .size) (resume (h .progress .place)) rest Done → stepList (o .size) ≡ steps ++ rest
   pub counts : countsIn h ≡ sums o steps
   pub firm : Firm o (h .table) (h .progress .place)
-  pub solve : (x ms zs : List ℕ) → Begins o (h .mask) ms → Begins o (h .nonzero) zs
-      → (v : List ℕ) × (walk o ms zs steps (running (fresh (held t x))) ≡ courseOf (h .progress .place) (tallyOf h v))
+  -- what a call asks of the table and the solution goes on holding
+  pub admitted : Admitted o t → Admitted o (h .table)
+  pub places : length x ≡ o .size → length (h .solution) ≡ o .size
+  pub drawn : NoneZero o (h .nonzero)
+  pub solve : (y ms zs : List ℕ) → Begins o (h .mask) ms → Begins o (h .nonzero) zs
+      → (v : List ℕ) × (walk o ms zs steps (running (fresh (held t y))) ≡ courseOf (h .progress .place) (tallyOf h v))
+      × (P → y ≡ x → v ≡ h .solution)
 
-start : (o : Order) → 1 ≤ o .size → (t : List ℕ) → Reached o t (begin o t)
+start : (o : Order) → 1 ≤ o .size → (t x : List ℕ) → Reached Unit o t x (begin o t x)
 unfolding startOf walk sums sumOver
-start o some t =
+start o some t x =
     let m : ℕ = o .size in
     let c = first-calm m 1 in
     record {
@@ -72,22 +81,36 @@ start o some t =
       whole = λ rest e. unique m (firstOf m 1) (stepList m) rest (chain m some) (rw (calm-resume (firstOf m 1) c) at e);
       counts = refl;
       firm = firm-first o t 1;
-      solve = λ x ms zs d e. (x, calm-course (firstOf m 1) (fresh (held t x)) c);
+      admitted = λ a. a;
+      places = λ l. l;
+      drawn = λ k l. absurd (omega arith);
+      solve = λ y ms zs d e. (y, calm-course (firstOf m 1) (fresh (held t y)) c, λ p same. same);
     }
 
+-- the draws of two parts, none of which is 0
+both-drawn : (o : Order) (a b : List ℕ) → NoneZero o a → NoneZero o b → NoneZero o (a ++ b)
+both-drawn o a b g h k l e = elim (decLt k (length a)) [
+  | yes i ↦ g k i (ap (draw (fieldOf (o .field))) (sym (List·getD-append a b 0 k i)) ∙ e)
+  | no n ↦
+      let j : length a + (k - length a) ≡ k = omega arith in
+      h (k - length a) (omega (arith, length-append a b))
+      (ap (draw (fieldOf (o .field))) (sym (getD-append-add a b (k - length a) 0) ∙ ap (λ (i : ℕ). getD (a ++ b) i 0) j) ∙ e)
+]
+
 -- what held of a host holds of it after an accepted call
-module _ (t : List ℕ) (h : Host) (c : Beside) (s : Step) (sized : Sizes (orderIn h)) (a : Accepted h c s) (g : Reached (orderIn h) t h) where
+module _ (P : Type 0) (t x : List ℕ) (h : Host) (c : Beside) (s : Step) (sized : Sizes (orderIn h)) (a : Accepted h c s)
+    (g : Reached P (orderIn h) t x h) where
   abbrev own : Order
   own = orderIn h
 
-  abbrev x : ℕ
-  x = opensAt h c s
+  abbrev u : ℕ
+  u = opensAt h c s
 
   abbrev h′ : Host
   h′ = stepped h c s
 
-  next : h′ .progress .place ≡ after (own .size) s x
-  next = next-place (h .progress) s x refl (a .place) (a .listed)
+  next : h′ .progress .place ≡ after (own .size) s u
+  next = next-place (h .progress) s u refl (a .place) (a .listed)
 
   mask-more : length (h .mask ++ c .mask) ≡ length (h .mask) + maskCost own s
   mask-more = length-append (h .mask) (c .mask) ∙ ap (λ (k : ℕ). length (h .mask) + k) (a .mask)
@@ -98,7 +121,7 @@ module _ (t : List ℕ) (h : Host) (c : Beside) (s : Step) (sized : Sizes (order
   whole-more : (rest : List Step) → Chain (own .size) (resume (h′ .progress .place)) rest Done
       → stepList (own .size) ≡ (g .steps ++ (s ∷ [])) ++ rest
   whole-more rest e =
-      let f : Chain (own .size) (after (own .size) s 0) rest Done = rw (next, resume-after (own .size) s x) at e in
+      let f : Chain (own .size) (after (own .size) s 0) rest Done = rw (next, resume-after (own .size) s u) at e in
       rw append-assoc (g .whole (s ∷ rest) (rw (a .place) (refl, f)))
 
   module _ (y ms zs : List ℕ) (d : Begins own (h .mask ++ c .mask) ms) (e : Begins own (h .nonzero ++ c .nonzero) zs) where
@@ -113,51 +136,88 @@ module _ (t : List ℕ) (h : Host) (c : Beside) (s : Step) (sized : Sizes (order
         rw (next, a .place, opened-own own (h .table) (a .table) s (a .listed) dm (c .solution) v, table-own own (h .table) (a .table) s (a .listed) dm dz (c .solution) v, mask-more, nonzero-more)
         (settle-after own ms zs (own .size) s (opens own ms zs s (tallyOf h v)) (spent own ms zs s (tallyOf h v)))
 
+    -- where it has the host's solution and the call lent that, it has the host's solution after the step
+    sole-more : (v : List ℕ) → c .solution ≡ v → spent own ms zs s (tallyOf h v) .left .solution ≡ h′ .solution
+    sole-more v e′ =
+        let dm = begins-back own (h .mask) (c .mask) d (a .mask) in
+        acted-written own s (drop (length (h .mask)) ms) (drop (length (h .nonzero)) zs) (held (h .table) v)
+        ∙ ap₂ (written s) (sym (opened-own own (h .table) (a .table) s (a .listed) dm (c .solution) v)) (sym e′)
+
     solve-more : (v : List ℕ)
         × (walk own ms zs (g .steps ++ (s ∷ [])) (running (fresh (held t y))) ≡ courseOf (h′ .progress .place) (tallyOf h′ v))
+        × (P × (c .solution ≡ h .solution) → y ≡ x → v ≡ h′ .solution)
     solve-more =
         let r = g .solve y ms zs (begins-front own (h .mask) (c .mask) d) (begins-front own (h .nonzero) (c .nonzero) e) in (
           spent own ms zs s (tallyOf h (r .0)) .left .solution,
           walk-append own ms zs (g .steps) (s ∷ []) (running (fresh (held t y))) ∙ ap (walk own ms zs (s ∷ [])) (r .1) ∙ step-more (r .0),
+          λ p same. sole-more (r .0) (p .1 ∙ sym (r .2 (p .0) same)),
         )
 
-  more : Reached own t h′
+  more : Reached (P × (c .solution ≡ h .solution)) own t x h′
   more =
       record {
-        along = rw (next, mask-more, nonzero-more) (turn-along own (rw (a .place) at (g .along)) x);
+        along = rw (next, mask-more, nonzero-more) (turn-along own (rw (a .place) at (g .along)) u);
         steps = g .steps ++ (s ∷ []);
         whole = whole-more;
         counts = rw (mask-more, nonzero-more) (sums-more own (g .steps) s (countsIn h) (g .counts));
         firm = rw next (firm-after own (omega (arith, sized .two)) (c .mask) (c .nonzero) (lends h c) (a .table) s (a .listed));
+        admitted = λ b.
+            record {
+              whole = acted-sized own s (within (own .size) s (a .listed)) (c .mask) (c .nonzero) (lends h c) (a .table);
+              elements = acted-below own s (c .mask) (c .nonzero) (lends h c) (a .elements);
+            };
+        places = λ l.
+            ap length (sym (acted-written own s (c .mask) (c .nonzero) (lends h c))) ∙ acted-places own s (c .mask) (c .nonzero) (lends h c)
+            ∙ a .solution;
+        drawn = both-drawn own (h .nonzero) (c .nonzero) (g .drawn) (a .drawn);
         solve = solve-more;
       }
 
--- and so after any calls
-record Run (o : Order) (t : List ℕ) (h : Host) : Type 0 where
-  order : orderIn h ≡ o
-  now : Reached (orderIn h) t h
+-- a premise that was not used
+weaker : (P Q : Type 0) {o : Order} {t x : List ℕ} {h : Host} → (Q → P) → Reached P o t x h → Reached Q o t x h
+weaker P Q f g =
+    record {
+      along = g .along;
+      steps = g .steps;
+      whole = g .whole;
+      counts = g .counts;
+      firm = g .firm;
+      admitted = g .admitted;
+      places = g .places;
+      drawn = g .drawn;
+      solve = λ y ms zs d e. let r = g .solve y ms zs d e in (r .0, r .1, λ q same. r .2 (f q) same);
+    }
 
-module _ (o : Order) (sized : Sizes o) (t : List ℕ) where
-  step : (h : Host) (c : Beside) → Run o t h → Run o t (hostAfter h c)
+-- and so after any calls
+record Run (P : Type 0) (o : Order) (t x : List ℕ) (h : Host) : Type 0 where
+  order : orderIn h ≡ o
+  now : Reached P (orderIn h) t x h
+
+module _ (o : Order) (sized : Sizes o) (t x : List ℕ) where
+  step : (P : Type 0) (h : Host) (c : Beside) → Run P o t x h → Run (P × (c .solution ≡ h .solution)) o t x (hostAfter h c)
   unfolding nextOf
-  step h c g =
-      ⊎-elim (λ (r : Refused h c). rw (r .after) g)
+  step P h c g =
+      ⊎-elim
+      (λ (r : Refused h c).
+      rw (r .after) (record { order = g .order; now = weaker P (P × (c .solution ≡ h .solution)) (λ p. p .0) (g .now) }))
       (λ (r : (s : Step) × Accepted h c s).
       rw (r .1 .after)
-      (record { order = g .order; now = more t h c (r .0) (rw (← (g .order)) at sized) (r .1) (g .now) }))
+      (record { order = g .order; now = more P t x h c (r .0) (rw (← (g .order)) at sized) (r .1) (g .now) }))
       (each-call h c)
 
-  steps : (h : Host) (cs : List Beside) → Run o t h → Run o t (drive h cs)
-  unfolding drive
-  steps h [] g = g
-  steps h (c ∷ cs) g = steps (hostAfter h c) cs (step h c g)
+  steps : (P : Type 0) (h : Host) (cs : List Beside) → Run P o t x h → Run (P × Own h cs) o t x (drive h cs)
+  unfolding drive Own
+  steps P h [] g = record { order = g .order; now = weaker P (P × Unit) (λ p. p .0) (g .now) }
+  steps P h (c ∷ cs) g =
+      let r = steps (P × (c .solution ≡ h .solution)) (hostAfter h c) cs (step P h c g) in
+      record { order = r .order; now = weaker _ _ (λ p. ((p .0, p .1 .0), p .1 .1)) (r .now) }
 
-  driven : (cs : List Beside) → Run o t (drive (begin o t) cs)
+  driven : (cs : List Beside) → Run (Unit × Own (begin o t x) cs) o t x (drive (begin o t x) cs)
   unfolding startOf
-  driven cs = steps (begin o t) cs (record { order = refl; now = start o (sized .some) t })
+  driven cs = steps Unit (begin o t x) cs (record { order = refl; now = start o (sized .some) t x })
 
-  pub order-kept : (cs : List Beside) → orderIn (drive (begin o t) cs) ≡ o
+  pub order-kept : (cs : List Beside) → orderIn (drive (begin o t x) cs) ≡ o
   order-kept cs = driven cs .order
 
-  pub reached : (cs : List Beside) → Reached o t (drive (begin o t) cs)
-  reached cs = rw (driven cs .order) at (driven cs .now)
+  pub reached : (cs : List Beside) → Reached (Own (begin o t x) cs) o t x (drive (begin o t x) cs)
+  reached cs = weaker _ _ (λ p. (tt, p)) (rw (driven cs .order) at (driven cs .now))

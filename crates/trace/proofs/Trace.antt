@@ -1,5 +1,5 @@
 -- Demand 3: what a host does by step calls, however many and with refused ones among them, and the whole solve are one and the same. `o` is
--- an order of right sizes, t any first table, and cs any calls from a record of Start.
+-- an order of right sizes, t any first table, y any first solution, and cs any calls from a record of Start.
 -- Assumes nothing.
 use mathlib.Core.Bool.{true}
 use mathlib.Core.List.{List, [], _∷_, _++_}
@@ -27,14 +27,14 @@ use Rattle.walk.proofs.Walked.{courseOf, walk-append, walk-stopped}
 use Rattle.trace.proofs.Reached.{tallyOf, Reached, reached, order-kept}
 
 -- a run is its calls one by one
-last-call : (h : Host) (cs : List Beside) (c : Beside) → drive h (cs ++ (c ∷ [])) ≡ hostAfter (drive h cs) c
+pub last-call : (h : Host) (cs : List Beside) (c : Beside) → drive h (cs ++ (c ∷ [])) ≡ hostAfter (drive h cs) c
 unfolding drive
 last-call h [] c = refl
 last-call h (b ∷ cs) c = last-call (hostAfter h b) cs c
 
 -- what a host that is reached has, by its place
-module _ (o : Order) (t : List ℕ) (h : Host) (g : Reached o t h) where
-  counted-at : (p : Place) → h .progress .place ≡ p → Counted o (countsIn h) p
+module _ {P : Type 0} (o : Order) (t y : List ℕ) (h : Host) (g : Reached P o t y h) where
+  pub counted-at : (p : Place) → h .progress .place ≡ p → Counted o (countsIn h) p
   counted-at (At s) e =
       let f = first (o .size) s (g .along .rest) (rw e at (g .along .leads)) in
       (g .steps, f .0, g .whole (s ∷ f .0) (rw e (refl, f .2)), g .counts)
@@ -57,42 +57,52 @@ module _ (o : Order) (t : List ℕ) (h : Host) (g : Reached o t h) where
     goal = walk o ms zs (stepList (o .size)) (running (fresh (held t x)))
 
     -- the solve goes on from where the host is
-    onward : (v : List ℕ) × (goal ≡ walk o ms zs (g .along .rest) (courseOf (h .progress .place) (tallyOf h v)))
+    pub onward : (v : List ℕ) × (goal ≡ walk o ms zs (g .along .rest) (courseOf (h .progress .place) (tallyOf h v))) × (P → x ≡ y → v ≡ h .solution)
     onward =
         let r = g .solve x ms zs dm dz in (
           r .0,
           ap (λ (l : List Step). walk o ms zs l (running (fresh (held t x)))) (g .whole (g .along .rest) (g .along .leads))
               ∙ walk-append o ms zs (g .steps) (g .along .rest) (running (fresh (held t x)))
               ∙ ap (walk o ms zs (g .along .rest)) (r .1),
+          r .2,
         )
 
-    ends-at : (p : Place) → h .progress .place ≡ p → (v : List ℕ)
+    pub ends-at : (p : Place) → h .progress .place ≡ p → (v : List ℕ)
         → goal ≡ walk o ms zs (g .along .rest) (courseOf (h .progress .place) (tallyOf h v)) → Agrees h (solveDoes (solved o ms zs (held t x))) p
     unfolding solved conclude walk
     ends-at (At s) e v w = tt
     ends-at (Stopped j) e v w = rw (w, e, walk-stopped o ms zs (g .along .rest) j (tallyOf h v)) (refl, refl)
     ends-at Done e v w = rw (w, e, none (o .size) (g .along .rest) (rw e at (g .along .leads))) (refl, refl)
 
-module _ (o : Order) (sized : Sizes o) (t : List ℕ) (cs : List Beside) where
+    left-at : (v : List ℕ) → goal ≡ walk o ms zs (g .along .rest) (courseOf (h .progress .place) (tallyOf h v)) → h .progress .place ≡ Done
+        → solved o ms zs (held t x) .left .solution ≡ v
+    unfolding solved conclude walk
+    left-at v w e = rw (w, e, none (o .size) (g .along .rest) (rw e at (g .along .leads)))
+
+    -- at done, where the calls lent the host's own solution and the solve is lent the same first one, it leaves the same solution
+    pub sole-at : P → x ≡ y → h .progress .place ≡ Done → solved o ms zs (held t x) .left .solution ≡ h .solution
+    sole-at p same e = let r = onward in left-at (r .0) (r .1) e ∙ r .2 p same
+
+module _ (o : Order) (sized : Sizes o) (t y : List ℕ) (cs : List Beside) where
   abbrev d : Host
-  d = drive (begin o t) cs
+  d = drive (begin o t y) cs
 
   -- 1. One call more, whatever is lent to it: it is refused and changes nothing, or the step of the record's place is done
   pub call-by-call : (c : Beside)
-      → (drive (begin o t) (cs ++ (c ∷ [])) ≡ hostAfter d c) × (orderIn d ≡ o) × (Refused d c ⊎ ((s : Step) × Accepted d c s))
-  call-by-call c = (last-call (begin o t) cs c, order-kept o sized t cs, each-call d c)
+      → (drive (begin o t y) (cs ++ (c ∷ [])) ≡ hostAfter d c) × (orderIn d ≡ o) × (Refused d c ⊎ ((s : Step) × Accepted d c s))
+  call-by-call c = (last-call (begin o t y) cs c, order-kept o sized t y cs, each-call d c)
 
   -- 2. The accepted calls and the draws lent to them are 01's sums
   pub counted : Counted o (countsIn d) (d .progress .place)
-  counted = counted-at o t d (reached o sized t cs) (d .progress .place) refl
+  counted = counted-at o t y d (reached o sized t y cs) (d .progress .place) refl
 
   module _ (x ms zs : List ℕ) (dm : Begins o (d .mask) ms) (dz : Begins o (d .nonzero) zs) where
     -- 3. The whole solve of the same first table, on tapes that begin with the same draws, comes to the same end
     pub agrees : Agrees d (solveDoes (solved o ms zs (held t x))) (d .progress .place)
     agrees =
-        let g = reached o sized t cs in
-        let r = onward o t d g x ms zs dm dz in
-        ends-at o t d g x ms zs dm dz (d .progress .place) refl (r .0) (r .1)
+        let g = reached o sized t y cs in
+        let r = onward o t y d g x ms zs dm dz in
+        ends-at o t y d g x ms zs dm dz (d .progress .place) refl (r .0) (r .1)
 
     pub agrees-call : solveOrder o t (length x) (length ms) zs ≡ passed → Agrees d (solveCall o (held t x) ms zs) (d .progress .place)
     unfolding solveCall call
@@ -101,9 +111,9 @@ module _ (o : Order) (sized : Sizes o) (t : List ℕ) (cs : List Beside) where
   -- 4. Refusals 10 and 12 are not met
   never : (k : ℕ) → 9 < k → (11 ≡ k → ⊥) → (c : Beside) → Never k d c
   never k late not-11 c l e =
-      let g = reached o sized t cs in
+      let g = reached o sized t y cs in
       never-given k late not-11 (orderIn d) (d .progress .place) (d .table) (length (c .solution)) (length (c .mask)) (c .nonzero)
-      (rw order-kept (placed-at o t d g (d .progress .place) refl)) (rw order-kept (g .firm)) .never l (refusal d c l e)
+      (rw order-kept (placed-at o t y d g (d .progress .place) refl)) (rw order-kept (g .firm)) .never l (refusal d c l e)
 
   pub never-off-list : (c : Beside) → Never 10 d c
   never-off-list c = never 10 (omega arith) (λ e. omega arith) c

@@ -1,15 +1,17 @@
 -- Demand 3's host. It has a record from Start and a table, and both are touched only by step calls: as many as it likes, each with whatever it
 -- lends beside them, and refused ones among them. Its tapes need not be one piece: what counts is the draws that it lends to accepted calls.
--- Here is what it has after such calls, and what is then true of it; proofs/Trace.antt proves it.
+-- Here is what it has after such calls, and what is then true of it; proofs/Trace.antt and proofs/Progress.antt prove it.
 -- Assumes nothing.
 use mathlib.Core.Bool.{true}
 use mathlib.Core.List.{List, [], _∷_, _++_}
 use mathlib.Core.Path.{_≡_}
-use Prim.Native.Nat.{ℕ, _+_, _≤_}
-use lib.ListN.{length}
+use Prim.Native.Nat.{ℕ, zero, suc, _+_, _-_, _≤_, _<_}
+use lib.ListN.{length, set}
 use Rattle.field.specs.Field.{fieldOf}
-use Rattle.sharing.specs.Lists.{SameDraws}
+use Rattle.sharing.specs.Rules.{drawAt}
+use Rattle.sharing.specs.Lists.{SameDraws, Below}
 use Rattle.course.specs.declared.Step.{Step}
+use Rattle.course.specs.declared.Step.the-variants.{Mix, Check, Scale, Clear, Open}
 use Rattle.course.specs.declared.Place.{Place}
 use Rattle.course.specs.declared.Place.the-variants.{At, Stopped, Done}
 use Rattle.course.specs.declared.Order.{Order}
@@ -30,17 +32,19 @@ pub record Beside : Type 0 where
   pub mask : List ℕ
   pub nonzero : List ℕ
 
--- what a host has: the record and the table; how many calls were accepted; and the draws lent to those calls, in order
+-- what a host has: the record, the table, and the solution as the last accepted call left it; how many calls were accepted; and the draws
+-- lent to those calls, in order
 pub record Host : Type 0 where
   pub progress : Progress
   pub table : List ℕ
+  pub solution : List ℕ
   pub steps : ℕ
   pub mask : List ℕ
   pub nonzero : List ℕ
 
--- a record from Start, and any table
-abbrev pub begin : Order → List ℕ → Host
-begin o t = record { progress = startOf o; table = t; steps = 0; mask = []; nonzero = [] }
+-- a record from Start, any table, and any solution
+abbrev pub begin : Order → List ℕ → List ℕ → Host
+begin o t x = record { progress = startOf o; table = t; solution = x; steps = 0; mask = []; nonzero = [] }
 
 abbrev pub lends : Host → Beside → Held
 lends h c = held (h .table) (c .solution)
@@ -58,11 +62,16 @@ abbrev pub uses : Says Stride → List ℕ → List ℕ
 uses (refuses l) ds = []
 uses (gives a) ds = ds
 
+abbrev pub keeps : Says Stride → List ℕ → List ℕ → List ℕ
+keeps (refuses l) own left = own
+keeps (gives a) own left = left
+
 abbrev pub noted : Host → Beside → Outcome Stride Lent → Host
 noted h c r =
     record {
       progress = r .left .progress;
       table = r .left .held .table;
+      solution = keeps (r .says) (h .solution) (r .left .held .solution);
       steps = h .steps + accepts (r .says);
       mask = h .mask ++ uses (r .says) (c .mask);
       nonzero = h .nonzero ++ uses (r .says) (c .nonzero);
@@ -83,19 +92,32 @@ orderIn h = orderOf (h .progress)
 abbrev pub opensAt : Host → Beside → Step → ℕ
 opensAt h c s = opened (orderIn h) s (c .mask) (lends h c)
 
+-- 01: "Only Open writes the solution, and only its place j"
+abbrev pub written : Step → ℕ → List ℕ → List ℕ
+written (Mix j k) x v = v
+written (Check j) x v = v
+written (Scale j) x v = v
+written (Clear j k) x v = v
+written (Open j) x v = set v (j - 1) x
+
 -- step s done on the lent parts, by the rules of the paper: the table share for share
 abbrev pub stepped : Host → Beside → Step → Host
 stepped h c s =
     record {
       progress = nextOf (h .progress) (opensAt h c s);
       table = acted (orderIn h) s (c .mask) (c .nonzero) (lends h c) .table;
+      solution = written s (opensAt h c s) (c .solution);
       steps = h .steps + 1;
       mask = h .mask ++ c .mask;
       nonzero = h .nonzero ++ c .nonzero;
     }
 
--- 1. A call that was refused has changed nothing. One that was accepted did the step of the record's place, on a whole table and exactly
--- the step's draws
+-- no draw of a tape's part is 0
+abbrev pub NoneZero : Order → List ℕ → Type 0
+NoneZero o ds = (k : ℕ) → k < length ds → drawAt (fieldOf (o .field)) ds k ≡ 0 → ⊥
+
+-- 1. A call that was refused has changed nothing. One that was accepted did the step of the record's place, on a whole table of which every
+-- byte is an element, on exactly the step's draws, and on nonzero draws that are not 0
 pub record Refused (h : Host) (c : Beside) : Type 0 where
   pub line : Line
   pub says : called h c .says ≡ refuses line
@@ -106,8 +128,11 @@ pub record Accepted (h : Host) (c : Beside) (s : Step) : Type 0 where
   pub place : h .progress .place ≡ At s
   pub listed : inList (h .progress .size) s ≡ true
   pub table : length (h .table) ≡ wholeTable (orderIn h)
+  pub elements : Below (fieldOf (orderIn h .field) .q) (h .table)
+  pub solution : length (c .solution) ≡ orderIn h .size
   pub mask : length (c .mask) ≡ maskCost (orderIn h) s
   pub nonzero : length (c .nonzero) ≡ nonzeroCost (orderIn h) s
+  pub drawn : NoneZero (orderIn h) (c .nonzero)
   pub says : called h c .says ≡ gives (tells s (opensAt h c s))
   pub after : hostAfter h c ≡ stepped h c s
 
@@ -135,3 +160,37 @@ Agrees h r Done = (r .left .table ≡ h .table) × (r .says ≡ gives (E.Solved 
 -- 4. A call does not get refusal k
 abbrev pub Never : ℕ → Host → Beside → Type 0
 Never k h c = (l : Line) → called h c .says ≡ refuses l → l .number ≡ k → ⊥
+
+-- 5. What a first table, and what a call at step s, must be to be admitted: the table is whole and of elements; the solution has m bytes; the
+-- tapes' parts are exactly the step's draws, and no nonzero one is 0
+pub record Admitted (o : Order) (t : List ℕ) : Type 0 where
+  pub whole : length t ≡ wholeTable o
+  pub elements : Below (fieldOf (o .field) .q) t
+
+pub record Fit (o : Order) (s : Step) (c : Beside) : Type 0 where
+  pub solution : length (c .solution) ≡ o .size
+  pub mask : length (c .mask) ≡ maskCost o s
+  pub nonzero : length (c .nonzero) ≡ nonzeroCost o s
+  pub drawn : NoneZero o (c .nonzero)
+
+-- k calls of a host that lends what `lend` makes of what it has
+unfoldable pub calls : (Host → Beside) → ℕ → Host → List Beside
+calls lend zero h = []
+calls lend (suc k) h = let cs = calls lend k h in cs ++ (lend (drive h cs) ∷ [])
+
+unfoldable pub after : (Host → Beside) → ℕ → Host → Host
+after lend k h = drive h (calls lend k h)
+
+-- a host that lends what the step asks for, at each step that it comes to
+pub record Supplies (o : Order) (first : Host) (lend : Host → Beside) : Type 0 where
+  pub fit : (k : ℕ) (s : Step) → after lend k first .progress .place ≡ At s → Fit o s (lend (after lend k first))
+
+abbrev pub Ended : Place → Type 0
+Ended (At s) = ⊥
+Ended (Stopped j) = Unit
+Ended Done = Unit
+
+-- 6. The calls all lend the host's own solution, which nothing else touches
+unfoldable pub Own : Host → List Beside → Type 0
+Own h [] = Unit
+Own h (c ∷ cs) = (c .solution ≡ h .solution) × Own (hostAfter h c) cs

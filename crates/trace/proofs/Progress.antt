@@ -1,0 +1,281 @@
+-- Demand 3 is never empty. From a fresh record and an admitted table every call that lends what its step asks for is accepted, and a host that
+-- goes on so comes to an end, after 01's number of steps. And what the end of any run means.
+-- Assumes nothing.
+use mathlib.Core.List.{List, [], _∷_, _++_}
+use mathlib.Core.Logic.{⊎-elim}
+use mathlib.Core.Path.{_≡_, refl, sym, ap, _∙_}
+use Prim.Native.Nat.{ℕ, zero, suc, _+_, _-_, _≤_, _<_}
+use native.Mathlib.Decide.{decLt}
+use native.Mathlib.Nat.{le-refl, mod-eq-of-lt}
+use native.Mathlib.Omega.{arith}
+use lib.ListN.{length, getD, take, drop, length-drop, length-replicate, replicate, List·getD-append, getD-replicate}
+use lib.Seq.{take-add, length-take-le, getD-take, getD-drop, getD-append-add}
+use Rattle.field.specs.Field.{draw, fieldOf}
+use Rattle.field.proofs.Fields.{field-of}
+use Rattle.sharing.specs.Rules.{drawAt}
+use Rattle.sharing.proofs.Draws.{same-longer}
+use Rattle.course.specs.declared.Step.{Step}
+use Rattle.course.specs.declared.Place.{Place}
+use Rattle.course.specs.declared.Place.the-variants.{At, Stopped, Done}
+use Rattle.course.specs.declared.Order.{Order}
+use Rattle.course.specs.StepList.{Sizes, stepList, maskCost, nonzeroCost, fullMask, fullNonzero}
+use Rattle.course.proofs.Along.{along-in, room-along}
+use Rattle.walk.specs.declared.Ending.{Ending}
+use Rattle.walk.specs.declared.Ending.the-variants as E
+use Rattle.walk.specs.Act.{held}
+use Rattle.walk.specs.Walk.{solved}
+use Rattle.meaning.specs.Meaning.{IsSolved, IsStopped, Means}
+use Rattle.meaning.proofs.Walked.{NoZero}
+use Rattle.meaning.proofs.Meant.{Lent, meant}
+use Rattle.solver.specs.Told.{passed}
+use Rattle.solver.specs.Refusals.{wholeTable, solveOrder, maskAt, nonzeroAt}
+use Rattle.solver.specs.Calls.{gives, solveDoes, solveCall}
+use Rattle.solver.proofs.Ready.{Solvable, solvable, no-zero}
+use Rattle.trace.specs.Trace.{Beside, Host, begin, hostAfter, drive, Refused, Accepted, countsIn, Begins, Agrees, Admitted, Fit, calls, after, Supplies, Ended, Own}
+use Rattle.trace.proofs.Admitted.{six-says, step-passes}
+use Rattle.trace.proofs.Call.{verdict, accepted-call, each-call}
+use Rattle.trace.proofs.Reached.{reached, order-kept}
+use Rattle.trace.proofs.Trace.{last-call, sole-at, agrees, agrees-call}
+
+module _ (o : Order) (sized : Sizes o) (t y : List ℕ) where
+  abbrev first : Host
+  first = begin o t y
+
+  -- 5. Whatever calls came before: a call that is fit for the step at the record's place is accepted
+  module _ (admitted : Admitted o t) (cs : List Beside) where
+    abbrev d : Host
+    d = drive first cs
+
+    fit-passes : (c : Beside) (s : Step) → d .progress .place ≡ At s → Fit o s c → verdict d c ≡ passed
+    fit-passes c s e f =
+        let g = reached o sized t y cs in
+        let a : Admitted o (d .table) = g .admitted admitted in
+        rw (order-kept o sized t y cs, e)
+        (step-passes o sized (d .table) (a .whole) (a .elements) s (length (c .solution)) (length (c .mask)) (c .nonzero)
+        (along-in o (rw e at (g .along))) (rw e at (g .firm)) (f .solution) (f .mask) (f .nonzero) (f .drawn))
+
+    pub accepted : (c : Beside) (s : Step) → d .progress .place ≡ At s → Fit o s c → Accepted d c s
+    accepted c s e f =
+        let a = accepted-call d c (fit-passes c s e f) in
+        let p = a .1 .place in
+        let same : a .0 ≡ s = cc in
+        rw same at (a .1)
+
+  -- a host that goes on with fit calls
+  module _ (admitted : Admitted o t) (lend : Host → Beside) (supplies : Supplies o first lend) where
+    pub supplied : (k : ℕ) (s : Step) → after lend k first .progress .place ≡ At s → Accepted (after lend k first) (lend (after lend k first)) s
+    unfolding after
+    supplied k s e = accepted admitted (calls lend k first) (lend (drive first (calls lend k first))) s e (supplies .fit k s e)
+
+    -- at a step, every call so far was accepted
+    all-accepted : (k : ℕ) (s : Step) → after lend k first .progress .place ≡ At s → after lend k first .steps ≡ k
+    unfolding after calls drive
+    all-accepted zero s e = refl
+    all-accepted (suc k) s e = by-place (after lend k first .progress .place) refl (all-accepted k)
+      where
+        next : after lend (suc k) first ≡ hostAfter (after lend k first) (lend (after lend k first))
+        next = last-call first (calls lend k first) (lend (drive first (calls lend k first)))
+
+        -- an ended host stays as it is
+        stays : ((r : Step) → after lend k first .progress .place ≡ At r → ⊥) → after lend (suc k) first ≡ after lend k first
+        stays ended =
+            next
+            ∙ ⊎-elim (λ (r : Refused (after lend k first) (lend (after lend k first))). r .after)
+            (λ (r : (s : Step) × Accepted (after lend k first) (lend (after lend k first)) s). absurd (ended (r .0) (r .1 .place)))
+            (each-call (after lend k first) (lend (after lend k first)))
+
+        by-place : (p : Place) → after lend k first .progress .place ≡ p
+            → ((r : Step) → after lend k first .progress .place ≡ At r → after lend k first .steps ≡ k) → after lend (suc k) first .steps ≡ suc k
+        by-place (At r) q ih =
+            ap (λ (h : Host). h .steps) (next ∙ supplied k r q .after) ∙ omega (arith, ih r q)
+        by-place (Stopped j) q ih =
+            let z = stays (λ r g. let z : _≡_ {A = ℕ} 0 1 = cc in omega arith) in
+            let n : _≡_ {A = ℕ} 0 1 = cc in
+            absurd (let f : ⊥ = omega arith in f)
+        by-place Done q ih =
+            let z = stays (λ r g. let z : _≡_ {A = ℕ} 0 1 = cc in omega arith) in
+            let n : _≡_ {A = ℕ} 0 1 = cc in
+            absurd (let f : ⊥ = omega arith in f)
+
+    ends : (p : Place) → after lend (length (stepList (o .size))) first .progress .place ≡ p → Ended p
+    unfolding after
+    ends (At s) e =
+        let k : ℕ = length (stepList (o .size)) in
+        let g = reached o sized t y (calls lend k first) in
+        let r = room-along o (rw e at (g .along)) in
+        omega (arith, r .0, all-accepted k s e)
+    ends (Stopped j) e = tt
+    ends Done e = tt
+
+    -- it is stopped or done after no more calls than the list has steps; how many of them were accepted is `counted`
+    pub reaches : Ended (after lend (length (stepList (o .size))) first .progress .place)
+    reaches = ends (after lend (length (stepList (o .size))) first .progress .place) refl
+
+-- ---- every whole solve has such a run
+
+-- a beginning of a tape
+own-length : (k : ℕ) (l : List ℕ) → take k l ≡ take (length (take k l)) l
+own-length zero l = refl
+own-length (suc k) [] = refl
+own-length (suc k) (x ∷ l) = ap (_∷_ x) (own-length k l)
+
+cut-more : (ds tape : List ℕ) (b : ℕ) → ds ≡ take (length ds) tape
+    → ds ++ take b (drop (length ds) tape) ≡ take (length (ds ++ take b (drop (length ds) tape))) tape
+cut-more ds tape b e =
+    let all : ds ++ take b (drop (length ds) tape) ≡ take (length ds + b) tape =
+    ap (λ (l : List ℕ). l ++ take b (drop (length ds) tape)) e ∙ sym (take-add (length ds) b tape) in
+    rw all (own-length (length ds + b) tape)
+
+cut-begins : (o : Order) (ds tape : List ℕ) → ds ≡ take (length ds) tape → Begins o ds tape
+cut-begins o ds tape e =
+    record {
+      at = λ i h. ap (draw (fieldOf (o .field))) (ap (λ (l : List ℕ). getD l i 0) e ∙ getD-take (length ds) tape i 0 h);
+    }
+
+own-last : (h : Host) (cs : List Beside) (c : Beside) → Own h cs → c .solution ≡ drive h cs .solution → Own h (cs ++ (c ∷ []))
+unfolding Own drive
+own-last h [] c u e = (e, tt)
+own-last h (b ∷ cs) c u e = (u .0, own-last (hostAfter h b) cs c (u .1) e)
+
+-- the parts of a solve's tapes that the record's place asks for, from where the host has come to
+abbrev cut : Order → List ℕ → List ℕ → Host → Beside
+cut o ms zs h =
+    record {
+      solution = h .solution;
+      mask = take (maskAt o (h .progress .place)) (drop (length (h .mask)) ms);
+      nonzero = take (nonzeroAt o (h .progress .place)) (drop (length (h .nonzero)) zs);
+    }
+
+module _ (o : Order) (t y ms zs : List ℕ) (passes : solveOrder o t (length y) (length ms) zs ≡ passed) where
+  checked : Solvable o t (length y) (length ms) zs
+  checked = solvable o t (length y) (length ms) zs passes
+
+  abbrev fresh : Host
+  fresh = begin o t y
+
+  not-zero : (k : ℕ) → k < fullNonzero o → drawAt (fieldOf (o .field)) zs k ≡ 0 → ⊥
+  not-zero k h e =
+      no-zero (o .field) (take (fullNonzero o) zs) (checked .nonzeros) k (rw (length-take-le (fullNonzero o) zs (checked .others)) h)
+      (ap (draw (fieldOf (o .field))) (getD-take (fullNonzero o) zs k 0 h) ∙ e)
+
+  part-long : (a c full : ℕ) (tape : List ℕ) → a + c ≤ full → full ≤ length tape → length (take c (drop a tape)) ≡ c
+  part-long a c full tape h g = length-take-le c (drop a tape) (rw length-drop (omega arith))
+
+  cut-fits : Supplies o fresh (cut o ms zs)
+  unfolding after maskAt nonzeroAt
+  cut-fits = record { fit = fits }
+    where
+      fits : (k : ℕ) (s : Step) → after (cut o ms zs) k fresh .progress .place ≡ At s → Fit o s (cut o ms zs (after (cut o ms zs) k fresh))
+      fits k s e =
+          let h : Host = after (cut o ms zs) k fresh in
+          let g = reached o (checked .sizes) t y (calls (cut o ms zs) k fresh) in
+          let r = room-along o (rw e at (g .along)) in
+          rw e
+          (record {
+            solution = g .places (checked .lent .room);
+            mask = part-long (length (h .mask)) (maskCost o s) (fullMask o) ms (r .1) (checked .masks);
+            nonzero = part-long (length (h .nonzero)) (nonzeroCost o s) (fullNonzero o) zs (r .2) (checked .others);
+            drawn = λ i l z.
+                let long = part-long (length (h .nonzero)) (nonzeroCost o s) (fullNonzero o) zs (r .2) (checked .others) in
+                not-zero (length (h .nonzero) + i) (omega (arith, r .2))
+                (ap (draw (fieldOf (o .field)))
+                (sym (getD-take (nonzeroCost o s) (drop (length (h .nonzero)) zs) i 0 (omega arith) ∙ getD-drop (length (h .nonzero)) zs i 0)) ∙ z);
+          })
+
+  -- what the host has lent is what the tapes begin with
+  record Cut (h : Host) : Type 0 where
+    mask : h .mask ≡ take (length (h .mask)) ms
+    nonzero : h .nonzero ≡ take (length (h .nonzero)) zs
+
+  cut-after : (h : Host) → Cut h → Cut (hostAfter h (cut o ms zs h))
+  cut-after h b =
+      ⊎-elim (λ (r : Refused h (cut o ms zs h)). rw (r .after) b)
+      (λ (r : (s : Step) × Accepted h (cut o ms zs h) s).
+      rw (r .1 .after) (record { mask = cut-more (h .mask) ms (maskAt o (h .progress .place)) (b .mask); nonzero = cut-more (h .nonzero) zs (nonzeroAt o (h .progress .place)) (b .nonzero) }))
+      (each-call h (cut o ms zs h))
+
+  cuts : (k : ℕ) → Cut (after (cut o ms zs) k fresh)
+  unfolding after calls drive
+  cuts zero = record { mask = refl; nonzero = refl }
+  cuts (suc k) =
+      rw (last-call fresh (calls (cut o ms zs) k fresh) (cut o ms zs (after (cut o ms zs) k fresh))) (cut-after (after (cut o ms zs) k fresh) (cuts k))
+
+  owns : (k : ℕ) → Own fresh (calls (cut o ms zs) k fresh)
+  unfolding calls Own
+  owns zero = tt
+  owns (suc k) = own-last fresh (calls (cut o ms zs) k fresh) _ (owns k) refl
+
+  -- For every solve that is admitted: step calls that are lent the tapes part by part, each what the record's place asks for, all accepted up
+  -- to the end (`supplied`), come to the solve's end. So `agrees` speaks of every solve
+  pub as-solve : (cs : List Beside) × Own fresh cs × Ended (drive fresh cs .progress .place)
+      × Agrees (drive fresh cs) (solveCall o (held t y) ms zs) (drive fresh cs .progress .place)
+  unfolding after
+  as-solve =
+      let k : ℕ = length (stepList (o .size)) in
+      let cs : List Beside = calls (cut o ms zs) k fresh in
+      let b = cuts k in
+      let a : Admitted o t = record { whole = checked .lent .whole; elements = six-says (o .field) t (checked .lent .elements) } in (
+        cs,
+        owns k,
+        reaches o (checked .sizes) t y a (cut o ms zs) cut-fits,
+        agrees-call o (checked .sizes) t y cs y ms zs (cut-begins o (drive fresh cs .mask) ms (b .mask)) (cut-begins o (drive fresh cs .nonzero) zs (b .nonzero)) passes,
+      )
+
+-- ---- what the end of a run means
+
+module _ (o : Order) (sized : Sizes o) (t y : List ℕ) (cs : List Beside) (whole : length t ≡ wholeTable o) where
+  abbrev end : Host
+  end = drive (begin o t y) cs
+
+  -- the host's nonzero draws, and ones behind them
+  tape : List ℕ
+  tape = end .nonzero ++ replicate (fullNonzero o) 1
+
+  tape-begins : Begins o (end .nonzero) tape
+  unfolding tape
+  tape-begins = same-longer (fieldOf (o .field)) (end .nonzero) (replicate (fullNonzero o) 1) (le-refl _)
+
+  tape-drawn : NoZero o tape
+  unfolding tape
+  tape-drawn k h e = elim (decLt k (length (end .nonzero))) [
+    | yes l ↦
+        reached o sized t y cs .drawn k l
+        (ap (draw (fieldOf (o .field))) (sym (List·getD-append (end .nonzero) (replicate (fullNonzero o) 1) 0 k l)) ∙ e)
+    | no n ↦
+        let i : ℕ = k - length (end .nonzero) in
+        let j : length (end .nonzero) + i ≡ k = omega arith in
+        let one : getD tape k 0 ≡ 1 =
+        ap (λ (z : ℕ). getD tape z 0) (sym j) ∙ getD-append-add (end .nonzero) (replicate (fullNonzero o) 1) i 0
+        ∙ getD-replicate (fullNonzero o) i 1 0 (omega arith) in
+        let z : _≡_ {A = ℕ} 1 0 = sym (mod-eq-of-lt (field-of (o .field) .one-lt)) ∙ ap (draw (fieldOf (o .field))) (sym one) ∙ e in
+        omega arith
+  ]
+
+  lent : (x : List ℕ) → length x ≡ o .size → Lent o tape t x
+  lent x l = record { sizes = sized; table = whole; solution = l; nonzero = tape-drawn }
+
+  same-draws : Begins o (end .mask) (end .mask)
+  same-draws = record { at = λ i h. refl }
+
+  -- what the solve on the host's draws comes to
+  agreed : (x : List ℕ) → Agrees end (solveDoes (solved o (end .mask) tape (held t x))) (end .progress .place)
+  agreed x = agrees o sized t y cs x (end .mask) tape same-draws tape-begins
+
+  means-stopped : (x : List ℕ) (a : Ending) (j : ℕ) → gives a ≡ gives (E.Stopped j (countsIn end)) → (v : List ℕ) → Means o t a v → IsStopped o t j
+  means-stopped x a j e v m = let same : a ≡ E.Stopped j (countsIn end) = cc in rw same at m
+
+  -- 6. At stopped(j) column j is the first that the columns before it combine to
+  pub stopped-means : (j : ℕ) → end .progress .place ≡ Stopped j → IsStopped o t j
+  stopped-means j e =
+      let x : List ℕ = replicate (o .size) 0 in
+      means-stopped x (solved o (end .mask) tape (held t x) .answer) j ((rw e at (agreed x)) .1) _
+      (meant o (end .mask) tape t x (lent x (length-replicate (o .size) 0)))
+
+  means-solved : (a : Ending) → gives a ≡ gives (E.Solved (countsIn end)) → (v : List ℕ) → Means o t a v → IsSolved o t v
+  means-solved a e v m = let same : a ≡ E.Solved (countsIn end) = cc in rw same at m
+
+  -- and at done, where the calls all lent the host's own solution, that solution is the one
+  pub done-means : length y ≡ o .size → Own (begin o t y) cs → end .progress .place ≡ Done → IsSolved o t (end .solution)
+  done-means l u e =
+      rw (sole-at o t y end (reached o sized t y cs) y (end .mask) tape same-draws tape-begins u refl e) at
+      (means-solved (solved o (end .mask) tape (held t y) .answer) ((rw e at (agreed y)) .1) _ (meant o (end .mask) tape t y (lent y l)))
