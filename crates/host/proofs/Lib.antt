@@ -1,3 +1,4 @@
 -- What the proofs of several functions use.
 pub mod Record
 pub mod Faces
+pub mod Once
