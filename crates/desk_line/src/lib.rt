@@ -1,4 +1,5 @@
-// The line that desk prints, made from the bytes that it read. Stands on solver, for the counts, and on io, for the digits.
+// The line that desk prints, made from the bytes that it read, and how desk reads and prints. Stands on solver, for the counts, and on io, for
+// the digits, reading and writing.
 ghost use mathlib.Core.List.{[], _∷_, _++_};
 ghost use mathlib.Core.Path.{_≡_};
 ghost use Prim.Native.Nat.{_+_, _≤_};
@@ -96,4 +97,15 @@ pub fn line(input: &[u8], out: &mut [u8; 64]) -> usize
         Counting::Refused(r) => refused(number_of(r), out),
         Counting::Counted(c) => counted(c, out),
     }
+}
+
+// All that desk does: reads an order from one descriptor and prints its line to another. No contract can say what is read or written, so
+// desk_run runs this function on prepared orders.
+pub fn serve(from: i32, to: i32) {
+    // a fifth byte is tried for, so that input longer than four bytes is told from four
+    let mut input = [0u8; 5];
+    let n = io::read_full(from, &mut input);
+    let mut out = [0u8; 64];
+    let k = line(&input[..n], &mut out);
+    io::write_all(to, &out[..k]);
 }
