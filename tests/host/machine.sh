@@ -2,11 +2,19 @@
 # (nothing on x86-64). The library's archive links only into x86-64 programs, so
 # another machine takes a cross compiler and an emulator, installed if missing.
 # Programs are linked with -static: the emulator then needs no x86-64 libraries.
+# Sourced from the top of the clone.
 
+# Where a package can't be had this ends the script with 77, which the gate takes
+# for 'left out' and not for a failure.
 install_packages() {
     if [ "$(id -u)" -eq 0 ]; then as_root=''; else as_root=sudo; fi
-    $as_root apt-get update
-    $as_root env DEBIAN_FRONTEND=noninteractive apt-get install -y --no-install-recommends "$@"
+    mkdir -p target
+    $as_root apt-get update >target/apt.log 2>&1 || true # the lists may be there already
+    if ! $as_root env DEBIAN_FRONTEND=noninteractive \
+        apt-get install -y --no-install-recommends "$@" >>target/apt.log 2>&1; then
+        echo "needs from Debian, and can't install: $* (target/apt.log says why)" >&2
+        exit 77
+    fi
 }
 
 have() {
