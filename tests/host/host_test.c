@@ -433,9 +433,7 @@ static void plant_zero_draw(void)
 
 static uint64_t full_mask(void)
 {
-    uint64_t counts[HZ_ANSWER_WORDS];
-    model_counts(field, shares, size, counts, HZ_ANSWER_WORDS);
-    return counts[1];
+    return model_full_mask_draws(field, shares, size);
 }
 
 static uint64_t full_nonzero(void)
@@ -852,6 +850,58 @@ static void case_of_sizes(uint64_t i)
         case_solve();
 }
 
+/* Every call with a number of shares that is refused, where nothing else speaks
+ * against it: table and tapes are as long as for the number itself, or for
+ * another that it might be taken for. One share has no draws. */
+static const struct {
+    uint64_t given, table, tapes; /* the lengths are right for so many shares */
+} refused_shares[] = {
+    {0, 0, 1}, {0, 1, 1}, {0, 2, 2}, {1, 1, 1}, {1, 1, 2}, {1, 2, 2}, {5, 4, 4}, {5, 5, 5},
+};
+static const uint64_t sizes_of_refused[] = {1, 2, 3, 5, 12, 24};
+#define REFUSED_SIZES (sizeof sizes_of_refused / sizeof sizes_of_refused[0])
+#define ALL_REFUSED_SHARES (2 * REFUSED_SIZES * (sizeof refused_shares / sizeof refused_shares[0]))
+
+static void call_with(uint64_t given, int kind)
+{
+    uint64_t kept = shares;
+    shares = given;
+    words(&record)[HZ_SHARES] = given;
+    demand(call(kind) == HZ_REFUSED && words(&answer)[0] == 2 && words(&answer)[1] == given,
+           "the number of shares is not refused");
+    shares = kept;
+}
+
+static void case_of_refused_shares(uint64_t i)
+{
+    field = i % 2 == 0 ? 16 : 256;
+    size = sizes_of_refused[i / 2 % REFUSED_SIZES];
+    i /= 2 * REFUSED_SIZES;
+    uint64_t given = refused_shares[i].given;
+    any_values();
+    shares = refused_shares[i].table;
+    make_table();
+    solution.len = size;
+    fill(solution.lent, size);
+    fresh_words();
+    shares = refused_shares[i].tapes;
+    make_mask(values.len * (shares - 1));
+    call_with(given, DEAL);
+    make_mask(full_mask());
+    make_nonzero(full_nonzero());
+    call_with(given, START);
+    call_with(given, COUNTS);
+    call_with(given, GATHER);
+    call_with(given, SOLVE);
+    for (uint64_t step = HZ_MIX; step <= HZ_AT_DONE; step++) {
+        bool pair = step == HZ_MIX || step == HZ_CLEAR;
+        set_record(step, step == HZ_AT_DONE ? 0 : 1, pair ? 2 : 0);
+        mask.len = model_mask_draws(field, shares, size, step, 1);
+        nonzero.len = model_nonzero_draws(shares, step);
+        call_with(given, STEP);
+    }
+}
+
 /* Large systems, by steps and whole. */
 static const struct {
     uint64_t field, shares, size, system;
@@ -860,7 +910,7 @@ static const struct {
     {256, 3, 96, RANDOM},     {256, 4, 96, RANDOM},     {16, 3, 64, RANDOM},    {16, 4, 48, FITTING_B},
     {256, 2, 57, RANDOM},     {256, 4, 33, LAST_COLUMN},
 };
-#define CASES (ALL_SIZES + RANDOM_CASES + sizeof large / sizeof large[0])
+#define CASES (ALL_SIZES + ALL_REFUSED_SHARES + RANDOM_CASES + sizeof large / sizeof large[0])
 
 static void case_large(uint64_t i)
 {
@@ -875,12 +925,19 @@ static void run_case(void)
 {
     state = seed * 0x2545f4914f6cdd1du ^ case_number * 0xd6e8feb86659fd93u;
     calls_in_case = 0;
-    if (case_number < ALL_SIZES) {
-        case_of_sizes(case_number);
+    uint64_t i = case_number;
+    if (i < ALL_SIZES) {
+        case_of_sizes(i);
         return;
     }
-    if (case_number >= ALL_SIZES + RANDOM_CASES) {
-        case_large(case_number - ALL_SIZES - RANDOM_CASES);
+    i -= ALL_SIZES;
+    if (i < ALL_REFUSED_SHARES) {
+        case_of_refused_shares(i);
+        return;
+    }
+    i -= ALL_REFUSED_SHARES;
+    if (i >= RANDOM_CASES) {
+        case_large(i - RANDOM_CASES);
         return;
     }
     switch (below(10)) {

@@ -240,8 +240,7 @@ uint64_t model_nonzero_draws(uint64_t n, uint64_t step)
     return step == HZ_SCALE ? n - 1 : 0;
 }
 
-/* The mask draws of a full solve. */
-static uint64_t full_mask_draws(uint64_t field, uint64_t n, uint64_t m)
+uint64_t model_full_mask_draws(uint64_t field, uint64_t n, uint64_t m)
 {
     uint64_t sum = 0;
     for (uint64_t j = 1; j <= m; j++) {
@@ -505,8 +504,8 @@ uint64_t model_solve(uint64_t field, uint64_t n, uint64_t m,
     size_t large = first_large(field, table, table_len);
     if (large < table_len)
         return refuse(answer, 6, large);
-    if (mask_len < full_mask_draws(field, n, m))
-        return refuse(answer, 7, full_mask_draws(field, n, m));
+    if (mask_len < model_full_mask_draws(field, n, m))
+        return refuse(answer, 7, model_full_mask_draws(field, n, m));
     if (nonzero_len < m * (n - 1))
         return refuse(answer, 8, m * (n - 1));
     size_t zero = first_zero_draw(field, nonzero, m * (n - 1));
@@ -587,5 +586,5 @@ uint64_t model_counts(uint64_t field, uint64_t n, uint64_t m, uint64_t *answer, 
     uint64_t detail, bad = bad_number(field, n, m, &detail);
     if (bad)
         return refuse(answer, bad, detail);
-    return say(HZ_COUNTS, answer, m * (m + 2), full_mask_draws(field, n, m), m * (n - 1), 0);
+    return say(HZ_COUNTS, answer, m * (m + 2), model_full_mask_draws(field, n, m), m * (n - 1), 0);
 }

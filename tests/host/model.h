@@ -48,4 +48,7 @@ uint8_t model_times(uint64_t field, uint8_t a, uint8_t b);
 uint64_t model_mask_draws(uint64_t field, uint64_t shares, uint64_t size, uint64_t step, uint64_t j);
 uint64_t model_nonzero_draws(uint64_t shares, uint64_t step);
 
+/* The mask draws of a full solve, by the same table. */
+uint64_t model_full_mask_draws(uint64_t field, uint64_t shares, uint64_t size);
+
 #endif
