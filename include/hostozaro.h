@@ -49,11 +49,15 @@
  * POINTERS
  *
  * Each buffer is a pointer followed by its length: bytes for uint8_t, words for
- * uint64_t. That many must be readable there, and writable where the pointer is
- * not const. No pointer may be NULL, not even with length 0 (lend the address of
- * anything). Buffers lent to one call must not overlap, and arrays of uint64_t
- * lie at a multiple of 8. C cannot check these three rules; everything else is
- * checked, and any number may be passed for any number.
+ * uint64_t. Four rules are the host's to keep, since C cannot check them:
+ *
+ *     The length is true: that many are readable there, and writable where the
+ *     pointer is not const.
+ *     No pointer is NULL, not even with length 0 (lend the address of anything).
+ *     Buffers lent to one call do not overlap.
+ *     Arrays of uint64_t lie at a multiple of 8.
+ *
+ * Everything else is checked, and any number may be passed for any number.
  * The library keeps nothing between calls, and has no global state.
  *
  *
@@ -155,9 +159,11 @@ uint64_t hz_start(uint64_t field, uint64_t shares, uint64_t size,
  * HZ_OPENED: after Open(j) with j > 1. Byte j-1 of the solution is x_j and its
  *     other bytes are unchanged; table and record as above.
  * HZ_DONE: the same after Open(1), for x_1; the record becomes done (j, k: 0).
- * HZ_STOPPED: Check(j) found that column j of A is a combination of the columns
- *     before it (or zero, for j = 1). The record becomes stopped at j (k: 0).
- *     Table and solution are unchanged.
+ * HZ_STOPPED: Check(j) found that T[j,j] is 0. The record becomes stopped at j
+ *     (k: 0). Table and solution are unchanged. In a run from hz_start, where the
+ *     record and the table are touched by hz_step alone, it means that column j of
+ *     A is the first that is a combination of the columns before it (or zero, for
+ *     j = 1). Of a record or a table that a host made up it says nothing more.
  * Refusals, in order: 1, 2, 3 (the record's numbers), 4 (table m(m+1)n), 5
  *     (solution m, whatever the step), 10, 11, 6 (the whole table), 7, 8, 9 (place
  *     within the bytes lent), 12.
