@@ -131,7 +131,8 @@ static sharing bit_and(task *t, sharing a, sharing b)
     return out;
 }
 
-static uint8_t opening(task *t, sharing a)
+/* Opening's first half. */
+static sharing pair_refresh(task *t, sharing a)
 {
     for (uint64_t i = 0; i < t->n; i++)
         for (uint64_t j = i + 1; j < t->n; j++) {
@@ -139,6 +140,12 @@ static uint8_t opening(task *t, sharing a)
             a.share[i] ^= r;
             a.share[j] ^= r;
         }
+    return a;
+}
+
+static uint8_t opening(task *t, sharing a)
+{
+    a = pair_refresh(t, a);
     uint8_t sum = 0;
     for (uint64_t s = 0; s < t->n; s++)
         sum ^= a.share[s];
@@ -161,14 +168,20 @@ static sharing zero_flag(task *t, sharing a)
     return a;
 }
 
-/* The n factors whose product is the inverse of a's value; false where that is 0. */
-static bool inversion(task *t, sharing a, uint8_t factors[4])
+/* Inversion's first half: a times z_1..z_(n-1), which become the first factors. */
+static sharing blinded(task *t, sharing a, uint8_t factors[4])
 {
     for (uint64_t s = 0; s + 1 < t->n; s++) {
         factors[s] = draw(t, &t->nonzero);
         a = refresh(t, scaled(t, a, factors[s]));
     }
-    uint8_t u = opening(t, a);
+    return a;
+}
+
+/* The n factors whose product is the inverse of a's value; false where that is 0. */
+static bool inversion(task *t, sharing a, uint8_t factors[4])
+{
+    uint8_t u = opening(t, blinded(t, a, factors));
     if (u == 0)
         return false;
     factors[t->n - 1] = inverse(t->field, u);
