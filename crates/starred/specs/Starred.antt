@@ -1,36 +1,18 @@
 -- 01, "Examples": the starred ones. Each row has what the definitions give, worked out, and what 01 says.
 -- Assumes nothing.
-use mathlib.Core.List.{List, [], _∷_, _++_, map}
-use mathlib.Core.Path.{_≡_, refl}
+use mathlib.Core.List.{List, [], _∷_, _++_}
+use mathlib.Core.Path.{refl}
 use Prim.Native.Nat.{ℕ, _+_, _*_}
 use lib.ListN.{replicate}
-use Rattle.field.specs.Poly.{times, left, product as polynomialProduct}
-use Rattle.field.specs.Field.{F16, F256, fieldOf, width, bitwise, inv, inverseBelow}
-use Rattle.sharing.specs.Run.{run, overPairs}
-use Rattle.sharing.specs.Lists.{joined}
-use Rattle.sharing.specs.Rules.{sum, refreshTurn, refresh, productTurn, productOver, product, andOf, pairRefreshTurn, pairRefresh, opening, folds, foldDraws, shifted, fold, lowBits, zeroFlag, scaled, blindTurn, blinded, blindedValue, factors, inversionDraws}
-use Rattle.table.specs.Layout.{cell, part, put}
-use Rattle.table.specs.Steps.{overColumns, signed, joinTurn, joinRow, joinRows, mix, check, scaleTurn, scaleRow, factorTurn, scaleAll, scale, clear, opens, liftTurn, lift}
-use Rattle.table.specs.Costs.{flagCost, mixCost, checkCost, scaleCost, scaleNonzero, clearCost, openCost}
-use Rattle.course.specs.declared.Order.{Order}
-use Rattle.course.specs.declared.Counts.{Counts}
-use Rattle.course.specs.StepList.{each, column, columns, openings, stepList, maskCost, nonzeroCost, sumOver, sums}
+use Rattle.field.specs.Field.{F16, F256}
+use Rattle.sharing.specs.Rules.{refresh, product, zeroFlag}
+use Rattle.course.specs.StepList.{stepList, sums}
 use Rattle.walk.specs.declared.Ending.{Ending}
 use Rattle.walk.specs.declared.Ending.the-variants.{Solved, Stopped}
-use Rattle.walk.specs.Act.{held, opened, acted}
-use Rattle.walk.specs.Walk.{Solution, walk, conclude, solved}
-use Rattle.walk.specs.Dealing.{dealtEntry, dealTurn, dealt}
-
-pub record Row : Type 0 where
-  pub given : List ℕ
-  pub wanted : List ℕ
-
-abbrev pub row : List ℕ → List ℕ → Row
-row given wanted = record { given = given; wanted = wanted }
-
--- F16, two shares
-abbrev pub two : ℕ → Order
-two m = record { field = 16; shares = 2; size = m }
+use Rattle.walk.specs.Act.{held}
+use Rattle.walk.specs.Walk.{Solution, solved}
+use Rattle.walk.specs.Dealing.{dealt}
+use Rattle.starred.specs.Rows.{Row, row, Holds, order, counted, definitions}
 
 -- 0 and x where it is solved, and j where it is stopped at j
 abbrev pub saying : Solution → List ℕ
@@ -45,10 +27,7 @@ unfoldable pub system : ℕ → List ℕ → List ℕ
 system m vs =
     let k = m * (m + 1) in
     let t = dealt 16 2 k vs (replicate k 6) (replicate (k * 2) 0) in
-    saying (solved (two m) (replicate 36 11) (replicate m 7) (held t (replicate m 0)))
-
-abbrev pub counted : Counts → List ℕ
-counted c = c .steps ∷ c .mask ∷ c .nonzero ∷ []
+    saying (solved (order 16 2 m) (replicate 36 11) (replicate m 7) (held t (replicate m 0)))
 
 pub rows : List Row
 rows =
@@ -73,10 +52,10 @@ rows =
     -- rows (1,2),(2,4), b=(1,2), which fits: stopped 2
     ∷ row (system 2 (1 ∷ 2 ∷ 1 ∷ 2 ∷ 4 ∷ 2 ∷ [])) (2 ∷ 0 ∷ 0 ∷ [])
     -- counts (steps, mask, nonzero): n=2, m=1: 3,12,1; n=2, m=2: 8,36,2
-    ∷ row (counted (sums (two 1) (stepList 1))) (3 ∷ 12 ∷ 1 ∷ [])
-    ∷ row (counted (sums (two 2) (stepList 2))) (8 ∷ 36 ∷ 2 ∷ [])
+    ∷ row (counted (sums (order 16 2 1) (stepList 1))) (3 ∷ 12 ∷ 1 ∷ [])
+    ∷ row (counted (sums (order 16 2 2) (stepList 2))) (8 ∷ 36 ∷ 2 ∷ [])
     ∷ []
 
-pub starred : map (λ (r : Row). r .given) rows ≡ map (λ (r : Row). r .wanted) rows
-unfolding rows system F16 F256 fieldOf width bitwise inv inverseBelow polynomialProduct times left run overPairs joined sum refreshTurn refresh productTurn productOver product andOf pairRefreshTurn pairRefresh opening folds foldDraws shifted fold lowBits zeroFlag scaled blindTurn blinded blindedValue factors inversionDraws cell part put overColumns signed joinTurn joinRow joinRows mix check scaleTurn scaleRow factorTurn scaleAll scale clear opens liftTurn lift flagCost mixCost checkCost scaleCost scaleNonzero clearCost openCost each column columns openings stepList maskCost nonzeroCost sumOver sums opened acted walk conclude solved dealtEntry dealTurn dealt
+pub starred : Holds rows
+unfolding rows system definitions
 starred = refl
