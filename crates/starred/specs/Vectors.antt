@@ -13,7 +13,7 @@ use Rattle.course.specs.declared.Step.the-variants.{Mix, Check, Scale, Clear, O
 use Rattle.walk.specs.declared.Ending.{Ending}
 use Rattle.walk.specs.declared.Ending.the-variants.{Solved, Stopped}
 use Rattle.walk.specs.Act.{Held, held, opened, acted}
-use Rattle.walk.specs.Walk.{solved}
+use Rattle.walk.specs.Walk.{Solution, solved}
 use Rattle.walk.specs.Dealing.{dealt, gathered}
 use Rattle.starred.specs.Rows.{Row, row, Holds, order, counted, definitions}
 
@@ -28,33 +28,35 @@ draws a zero = []
 draws a (suc k) = (a + 15) ∷ draws (a * 7 % 241) k
 
 -- u, and the record of factors
-abbrev pub inversion : Ops → List ℕ → List ℕ → List ℕ → List ℕ
+unfoldable pub inversion : Ops → List ℕ → List ℕ → List ℕ → List ℕ
 inversion F nz ds s = blindedValue F nz ds s ∷ factors F nz ds s
 
 -- numbers that were answered, and the table and the solution that were left
-abbrev pub left : List ℕ → List ℕ → List ℕ → List ℕ
+unfoldable pub left : List ℕ → List ℕ → List ℕ → List ℕ
 left numbers t x = numbers ++ (t ++ x)
 
+unfoldable pub leaves : List ℕ → Held → List ℕ
+leaves numbers h = left numbers (h .table) (h .solution)
+
 -- what is lent: a table, and a solution that nothing has written
-abbrev pub lent : Order → List ℕ → Held
+unfoldable pub lent : Order → List ℕ → Held
 lent o t = held t (replicate (o .size) 0xee)
 
 -- one step: the number that it opens, and what it leaves
-abbrev pub step : Order → Step → List ℕ → List ℕ → List ℕ → List ℕ
-step o s ds nz t =
-    let h = acted o s ds nz (lent o t) in
-    left (opened o s ds (lent o t) ∷ []) (h .table) (h .solution)
+unfoldable pub step : Order → Step → List ℕ → List ℕ → List ℕ → List ℕ
+step o s ds nz t = leaves (opened o s ds (lent o t) ∷ []) (acted o s ds nz (lent o t))
 
 -- 0 for solved, j for stopped at j; then the steps, mask draws and nonzero draws taken
-abbrev pub said : Ending → List ℕ
+unfoldable pub said : Ending → List ℕ
 said (Solved c) = 0 ∷ counted c
 said (Stopped j c) = j ∷ counted c
 
+unfoldable pub told : Solution → List ℕ
+told s = leaves (said (s .answer)) (s .left)
+
 -- a whole solve: the answer, and what it leaves
-abbrev pub solve : Order → List ℕ → List ℕ → List ℕ → List ℕ
-solve o ms zs t =
-    let s = solved o ms zs (lent o t) in
-    left (said (s .answer)) (s .left .table) (s .left .solution)
+unfoldable pub solve : Order → List ℕ → List ℕ → List ℕ → List ℕ
+solve o ms zs t = told (solved o ms zs (lent o t))
 
 pub rows : List Row
 rows =
@@ -262,5 +264,5 @@ rows =
     ∷ []
 
 pub vectors : Holds rows
-unfolding rows bytes draws definitions
+unfolding rows bytes draws inversion left leaves lent step said told solve definitions
 vectors = refl
