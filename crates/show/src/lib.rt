@@ -1,4 +1,4 @@
-// Printing for the two programs, examples and refusals: bytes, numbers, and the public calls' answers as words with 01's numbers.
+// Printing for the programs examples, refusals and solves: bytes, numbers, and the public calls' answers as words with 01's numbers.
 // Stands on solver, and on io to write.
 use course::Counts;
 use course::Place;
@@ -215,7 +215,7 @@ fn single(name: &[u8], j: u64) {
     text(b")");
 }
 
-fn say_place(t: Told) {
+pub fn say_place(t: Told) {
     let word = t.word;
     match word {
         MIX => pair(b"Mix(", t.a, t.b),
