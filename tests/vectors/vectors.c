@@ -269,9 +269,9 @@ static void solve_row(uint64_t seed, uint64_t field, uint64_t n, uint64_t m, con
  * inverse from 255 down, so a check takes no longer than it must. */
 int main(void)
 {
-    small_rules(32, 16, 2);
+    small_rules(48, 16, 2);
     small_rules(153, 16, 3);
-    small_rules(21, 16, 4);
+    small_rules(51, 16, 4);
     small_rules(71, 256, 2);
     small_rules(100, 256, 3);
     small_rules(16, 256, 4);

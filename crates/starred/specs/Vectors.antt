@@ -61,21 +61,21 @@ solve o ms zs t = told (solved o ms zs (lent o t))
 pub rows : List Row
 rows =
     -- F16, n = 2: Refresh
-    row (refresh F16 (draws 213 1) (bytes 2 0x08_00)) (bytes 2 0x0c_04)
+    row (refresh F16 (draws 239 1) (bytes 2 0x08_07)) (bytes 2 0x06_09)
     -- F16, n = 2: Opening, before the shares are summed
-    ∷ row (pairRefresh F16 (draws 213 1) (bytes 2 0x08_00)) (bytes 2 0x0c_04)
+    ∷ row (pairRefresh F16 (draws 239 1) (bytes 2 0x08_07)) (bytes 2 0x06_09)
     -- F16, n = 2: Product
-    ∷ row (product F16 (draws 213 1) (bytes 2 0x08_00) (bytes 2 0x0d_02)) (bytes 2 0x06_07)
+    ∷ row (product F16 (draws 239 1) (bytes 2 0x08_07) (bytes 2 0x0a_05)) (bytes 2 0x01_0b)
     -- F16, n = 2: And
-    ∷ row (andOf F16 (draws 213 1) (bytes 2 0x08_00) (bytes 2 0x0d_02)) (bytes 2 0x0c_04)
+    ∷ row (andOf F16 (draws 239 1) (bytes 2 0x08_07) (bytes 2 0x0a_05)) (bytes 2 0x06_09)
     -- F16, n = 2: Zero flag of 0
-    ∷ row (zeroFlag 16 (draws 213 4) (bytes 2 0x08_08)) (bytes 2 0x00_01)
+    ∷ row (zeroFlag 16 (draws 239 4) (bytes 2 0x08_08)) (bytes 2 0x00_01)
     -- F16, n = 2: Zero flag of 8
-    ∷ row (zeroFlag 16 (draws 213 4) (bytes 2 0x08_00)) (bytes 2 0x00_00)
+    ∷ row (zeroFlag 16 (draws 239 4) (bytes 2 0x08_00)) (bytes 2 0x00_00)
     -- F16, n = 2: Inversion of 11, before the Opening
-    ∷ row (blinded F16 (bytes 1 0x42) (draws 213 1) (bytes 2 0x08_03)) (bytes 2 0x07_02)
+    ∷ row (blinded F16 (bytes 1 0x49) (draws 239 1) (bytes 2 0x08_03)) (bytes 2 0x0a_06)
     -- F16, n = 2: Inversion of 11: u, and the n factors
-    ∷ row (inversion F16 (bytes 1 0x42) (draws 213 2) (bytes 2 0x08_03)) (bytes 3 0x05_02_0b)
+    ∷ row (inversion F16 (bytes 1 0x49) (draws 239 2) (bytes 2 0x08_03)) (bytes 3 0x0c_09_0a)
     -- F16, n = 3: Refresh
     ∷ row (refresh F16 (draws 169 2) (bytes 3 0x02_0c_06)) (bytes 3 0x00_04_0c)
     -- F16, n = 3: Opening, before the shares are summed
@@ -93,21 +93,21 @@ rows =
     -- F16, n = 3: Inversion of 11: u, and the n factors
     ∷ row (inversion F16 (bytes 2 0xd7_d2) (draws 169 7) (bytes 3 0x02_0c_05)) (bytes 4 0x08_07_02_0f)
     -- F16, n = 4: Refresh
-    ∷ row (refresh F16 (draws 12 3) (bytes 4 0x0d_02_0a_01)) (bytes 4 0x0c_09_09_08)
+    ∷ row (refresh F16 (draws 131 3) (bytes 4 0x0b_0a_0f_0c)) (bytes 4 0x00_08_0e_04)
     -- F16, n = 4: Opening, before the shares are summed
-    ∷ row (pairRefresh F16 (draws 12 6) (bytes 4 0x0d_02_0a_01)) (bytes 4 0x0c_0f_04_03)
+    ∷ row (pairRefresh F16 (draws 131 6) (bytes 4 0x0b_0a_0f_0c)) (bytes 4 0x00_0b_01_08)
     -- F16, n = 4: Product
-    ∷ row (product F16 (draws 12 6) (bytes 4 0x0d_02_0a_01) (bytes 4 0x04_08_0e_0f)) (bytes 4 0x00_04_0c_09)
+    ∷ row (product F16 (draws 131 6) (bytes 4 0x0b_0a_0f_0c) (bytes 4 0x05_0e_03_08)) (bytes 4 0x0a_0b_0c_0d)
     -- F16, n = 4: And
-    ∷ row (andOf F16 (draws 12 6) (bytes 4 0x0d_02_0a_01) (bytes 4 0x04_08_0e_0f)) (bytes 4 0x05_05_02_06)
+    ∷ row (andOf F16 (draws 131 6) (bytes 4 0x0b_0a_0f_0c) (bytes 4 0x05_0e_03_08)) (bytes 4 0x0a_01_07_0c)
     -- F16, n = 4: Zero flag of 0
-    ∷ row (zeroFlag 16 (draws 12 18) (bytes 4 0x0d_02_0a_05)) (bytes 4 0x01_01_01_00)
+    ∷ row (zeroFlag 16 (draws 131 18) (bytes 4 0x0b_0a_0f_0e)) (bytes 4 0x00_01_00_00)
     -- F16, n = 4: Zero flag of 8
-    ∷ row (zeroFlag 16 (draws 12 18) (bytes 4 0x0d_02_0a_0d)) (bytes 4 0x01_01_01_01)
+    ∷ row (zeroFlag 16 (draws 131 18) (bytes 4 0x0b_0a_0f_06)) (bytes 4 0x00_01_00_01)
     -- F16, n = 4: Inversion of 11, before the Opening
-    ∷ row (blinded F16 (bytes 3 0x3e_67_95) (draws 12 9) (bytes 4 0x0d_02_0a_0e)) (bytes 4 0x07_05_0c_02)
+    ∷ row (blinded F16 (bytes 3 0x1a_5c_48) (draws 131 9) (bytes 4 0x0b_0a_0f_05)) (bytes 4 0x02_03_0f_09)
     -- F16, n = 4: Inversion of 11: u, and the n factors
-    ∷ row (inversion F16 (bytes 3 0x3e_67_95) (draws 12 15) (bytes 4 0x0d_02_0a_0e)) (bytes 5 0x0c_0e_07_05_0a)
+    ∷ row (inversion F16 (bytes 3 0x1a_5c_48) (draws 131 15) (bytes 4 0x0b_0a_0f_05)) (bytes 5 0x07_0a_0c_08_06)
     -- F256, n = 2: Refresh
     ∷ row (refresh F256 (draws 8 1) (bytes 2 0x7f_0f)) (bytes 2 0x68_18)
     -- F256, n = 2: Opening, before the shares are summed
