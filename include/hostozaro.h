@@ -42,7 +42,8 @@
  * Draws are taken from the front, each byte once. Never lend a byte a second
  * time: the secrecy of the shares rests on it.
  * hz_solve and hz_deal take tapes as long as needed or longer and read only the
- * part that is needed. hz_step wants exactly the draws of its step.
+ * part that is needed. hz_step wants exactly the draws of its step, and hz_wanted
+ * tells beforehand how many these are.
  * hz_counts tells how many draws a full solve needs. A deal needs m(m+1)(n-1).
  *
  *
@@ -57,7 +58,8 @@
  *     Buffers lent to one call do not overlap.
  *     Arrays of uint64_t lie at a multiple of 8.
  *
- * Everything else is checked, and any number may be passed for any number.
+ * Everything else is checked, and any number may be passed for any number. The
+ * bytes of a buffer are looked at only once its length is found right.
  * The library keeps nothing between calls, and has no global state.
  *
  *
@@ -114,6 +116,7 @@ extern "C" {
 #define HZ_FILLED     6 /* deal, gather */
 #define HZ_FRESH      7 /* start */
 #define HZ_COUNTS     8 /* counts: answer: steps, mask draws, nonzero draws */
+#define HZ_WANTED     9 /* wanted: answer: mask draws, nonzero draws */
 #define HZ_BAD_WORDS 99 /* record or answer of wrong length: nothing was written */
 
 /* The words of a record, and what its word HZ_STEP may say. */
@@ -141,8 +144,16 @@ uint64_t hz_start(uint64_t field, uint64_t shares, uint64_t size,
                   uint64_t *record, size_t record_len,
                   uint64_t *answer, size_t answer_len);
 
+/* What the step that the record stands at must be lent by the next hz_step.
+ *
+ * HZ_WANTED: answer: its mask draws, its nonzero draws. The record is only read.
+ * Refusals, in order: 1, 2, 3 (the record's numbers), 10, 11. */
+uint64_t hz_wanted(const uint64_t *record, size_t record_len,
+                   uint64_t *answer, size_t answer_len);
+
 /* Does the step that the record stands at, and moves the record to the next
- * place. The steps, with L = m+2-j, and the draws that each must be lent:
+ * place. The steps, with L = m+2-j, and the draws that each must be lent, as
+ * hz_wanted tells them:
  *
  *     step        does                                mask draws            nonzero
  *     Mix(j,k)    adds row k to row j if T[j,j] is 0  f(n-1+N) + L·N        0

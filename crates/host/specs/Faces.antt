@@ -9,10 +9,10 @@ use Rattle.field.specs.Field.{pick}
 use Rattle.course.specs.declared.Order.{Order}
 use Rattle.course.specs.declared.Progress.{Progress}
 use Rattle.walk.specs.Act.{Held}
-use Rattle.solver.specs.Calls.{Says, refuses, gives, Outcome, Nothing, Stride, Lent, startCall, countsCall, dealCall, gatherCall, solveCall, stepCall}
+use Rattle.solver.specs.Calls.{Says, refuses, gives, Outcome, Nothing, Stride, Lent, startCall, countsCall, dealCall, gatherCall, solveCall, stepCall, wantedCall}
 use Rattle.host.specs.declared.replies.Reply.{Reply}
 use Rattle.host.specs.Words.{progressOf, wordsOf, kept}
-use Rattle.host.specs.Replies.{fourOf, said, freshReply, countsReply, fullReply, endingReply, strideReply}
+use Rattle.host.specs.Replies.{fourOf, said, freshReply, countsReply, fullReply, endingReply, strideReply, wantedReply}
 
 -- a call that came back: its code, what it was lent as it stands afterwards, and the answer's words
 pub record Back (L : Type 0) : Type 0 where
@@ -67,6 +67,11 @@ stepHanded w o =
 unfoldable pub hzStep : List ℕ → Held → List ℕ → List ℕ → List ℕ → Back Recorded
 hzStep w h mask nonzero answer =
     worded (sixFour (length w) (length answer)) (recorded w h) answer (stepHanded w (stepCall (progressOf w) h mask nonzero))
+
+-- ---- Wanted: the record's words are read, and only read
+
+unfoldable pub hzWanted : List ℕ → List ℕ → Back Nothing
+hzWanted w answer = worded (sixFour (length w) (length answer)) tt answer (handed wantedReply (wantedCall (progressOf w)))
 
 -- ---- Solve, Deal, Gather, and the counts
 

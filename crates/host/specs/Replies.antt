@@ -8,7 +8,7 @@ use Rattle.course.specs.declared.Progress.{Progress}
 use Rattle.walk.specs.declared.Ending.{Ending}
 use Rattle.walk.specs.declared.Ending.the-variants.{Solved, Stopped}
 use Rattle.solver.specs.Told.{Line}
-use Rattle.solver.specs.Calls.{Says, refuses, gives, Full, filled, Stride, moved, opening, stopped, done}
+use Rattle.solver.specs.Calls.{Says, refuses, gives, Full, filled, Stride, moved, opening, stopped, done, Draws}
 use Rattle.host.specs.declared.replies.Reply.{Reply}
 
 abbrev pub reply : ℕ → ℕ → ℕ → ℕ → ℕ → Reply
@@ -45,6 +45,10 @@ freshReply p = reply 7 0 0 0 0
 -- the counts
 unfoldable pub countsReply : Counts → Reply
 countsReply c = reply 8 (c .steps) (c .mask) (c .nonzero) 0
+
+-- Wanted
+unfoldable pub wantedReply : Draws → Reply
+wantedReply d = reply 9 (d .mask) (d .nonzero) 0 0
 
 unfoldable pub said : {A : Type 0} → (A → Reply) → Says A → Reply
 said f (refuses l) = refusalReply l

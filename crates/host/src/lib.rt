@@ -8,7 +8,7 @@ mod words;
 ghost use mathlib.Core.Path.{_≡_};
 ghost use Rattle.walk.specs.Act.{held};
 ghost use Rattle.solver.specs.Calls.{order};
-ghost use Rattle.host.specs.Faces.{back, recorded, hzStart, hzStep, hzSolve, hzDeal, hzGather, hzCounts};
+ghost use Rattle.host.specs.Faces.{back, recorded, hzStart, hzStep, hzWanted, hzSolve, hzDeal, hzGather, hzCounts};
 use solver::Starting;
 
 // A fresh record of these sizes, or refusal 1, 2, 3.
@@ -61,6 +61,18 @@ pub extern "C" fn hz_step(
     let r = replies::of_step(told);
     words::keep(record_words, r.code, next);
     replies::say(answer, r)
+}
+
+// The draws that the next step must be lent.
+#[no_mangle]
+pub extern "C" fn hz_wanted(record_words: &[u64], answer: &mut [u64]) -> u64
+    ensures { λ r. ⌜ back r tt (now (answer .exit)) ≡ hzWanted (now (record_words .entry)) (now (answer .entry)) ⌝ }
+{
+    if record_words.len() != 6 || answer.len() != 4 {
+        return 99;
+    }
+    let w = solver::wanted(words::read(record_words));
+    replies::say(answer, replies::of_wanted(w))
 }
 
 // The whole solve.

@@ -2,13 +2,14 @@
 ghost use mathlib.Core.Path.{_≡_};
 ghost use lib.ListN.{length};
 ghost use Rattle.solver.specs.Refusals.{paper};
-ghost use Rattle.solver.specs.Calls.{countSays, fillSays, solveSays, stepSays};
-ghost use Rattle.host.specs.Replies.{reply, refusalReply, said, countsReply, fullReply, endingReply, strideReply, fourOf};
+ghost use Rattle.solver.specs.Calls.{countSays, fillSays, solveSays, stepSays, wantSays};
+ghost use Rattle.host.specs.Replies.{reply, refusalReply, said, countsReply, fullReply, endingReply, strideReply, wantedReply, fourOf};
 use solver::Counting;
 use solver::Filling;
 use solver::Refusal;
 use solver::Solving;
 use solver::Stepping;
+use solver::Wanting;
 
 pub struct Reply {
     pub code: u64,
@@ -63,6 +64,15 @@ pub fn of_counts(x: Counting) -> Reply
             c: c.nonzero as u64,
             d: 0,
         },
+    }
+}
+
+pub fn of_wanted(x: Wanting) -> Reply
+    ensures { λ r. ⌜ r ≡ said wantedReply (wantSays x) ⌝ }
+{
+    match x {
+        Wanting::Refused(y) => refusal(y),
+        Wanting::Wanted(mask, nonzero) => short(9, mask as u64, nonzero as u64),
     }
 }
 

@@ -22,9 +22,11 @@ use Rattle.solver.specs.declared.Stepping.{Stepping}
 use Rattle.solver.specs.declared.Stepping.the-variants as Stepped
 use Rattle.solver.specs.declared.Solving.{Solving}
 use Rattle.solver.specs.declared.Solving.the-variants as Solve
+use Rattle.solver.specs.declared.Wanting.{Wanting}
+use Rattle.solver.specs.declared.Wanting.the-variants as Want
 use Rattle.solver.specs.Told.{Line}
 use Rattle.solver.specs.Refusals.{paper}
-use Rattle.solver.specs.Calls.{Says, refuses, gives, Outcome, after, Nothing, startSays, countSays, Full, filled, fillSays, Stride, moved, opening, stopped, done, stepSays, Lent, solveSays}
+use Rattle.solver.specs.Calls.{Says, refuses, gives, Outcome, after, Nothing, startSays, countSays, Full, filled, fillSays, Stride, moved, opening, stopped, done, stepSays, Lent, solveSays, Draws, wantSays}
 
 -- the case of a number of 01's table
 back : Line → Refusal
@@ -110,7 +112,16 @@ step-back (Stepped.Stopped j) = refl
 step-back (Stepped.Done x) = refl
 step-back (Stepped.Refused r) = ap Stepped.Refused (back-paper r)
 
--- so of Start, of the counts, of Deal and Gather, of Solve and of Step, each with what it is lent
+wantBack : Says Draws → Wanting
+wantBack (refuses l) = Want.Refused (back l)
+wantBack (gives d) = Want.Wanted (d .mask) (d .nonzero)
+
+want-back : (s : Wanting) → wantBack (wantSays s) ≡ s
+unfolding wantBack
+want-back (Want.Wanted m z) = refl
+want-back (Want.Refused r) = ap Want.Refused (back-paper r)
+
+-- so of Start, of the counts, of Deal and Gather, of Solve, of Step and of Wanted, each with what it is lent
 pub start-once : Once startSays Nothing
 start-once = only startSays startBack start-back
 
@@ -125,3 +136,6 @@ solve-once = only solveSays solveBack solve-back
 
 pub step-once : Once stepSays Lent
 step-once = only stepSays stepBack step-back
+
+pub wanted-once : Once wantSays Nothing
+wanted-once = only wantSays wantBack want-back

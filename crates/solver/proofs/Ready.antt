@@ -26,7 +26,7 @@ use Rattle.course.specs.StepList.{Sizes, inList, maskCost, nonzeroCost, fullMas
 use Rattle.course.proofs.Within.{within}
 use Rattle.walk.proofs.Acted.{pivot}
 use Rattle.solver.specs.Told.{passed, refuse, _or_}
-use Rattle.solver.specs.Refusals.{outside, firstPlace, zeroDraw, placed, ended, entries, wholeTable, dealDraws, maskAt, nonzeroAt, zeroPivotOf, no1, no2, no3, no4, no5, no6, no7, no8, no7step, no8step, no9, no10, no11, no12, sizes, buffers, dealOrder, gatherOrder, tapes, solveOrder, placing, lending, stepOrder}
+use Rattle.solver.specs.Refusals.{outside, firstPlace, zeroDraw, placed, ended, entries, wholeTable, dealDraws, maskAt, nonzeroAt, zeroPivotOf, no1, no2, no3, no4, no5, no6, no7, no8, no7step, no8step, no9, no10, no11, no12, sizes, buffers, dealOrder, gatherOrder, tapes, solveOrder, standing, wantedOrder, placing, lending, stepOrder}
 use Rattle.solver.proofs.Told.{left, right, not-then}
 use Rattle.solver.proofs.Scan.{before-first}
 
@@ -158,19 +158,36 @@ pub record Placed (o : Order) (place : Place) (table solution : ℕ) : Type 0 wh
   pub listed : placed (o .size) place ≡ true
   pub going : ended place ≡ false
 
+pub record Standing (size : ℕ) (place : Place) : Type 0 where
+  pub listed : placed size place ≡ true
+  pub going : ended place ≡ false
+
+-- 10 and 11 passed
+pub standing-says : (size : ℕ) (place : Place) → standing size place ≡ passed → Standing size place
+unfolding standing no10 no11
+standing-says size place e =
+    record {
+      listed = not-false _ (not-then _ _ (left (no10 size place) (no11 place) e));
+      going = not-then _ _ (right (no10 size place) (no11 place) e);
+    }
+
+-- Wanted's checks passed
+pub wanting : (o : Order) (place : Place) → wantedOrder o place ≡ passed → Sizes o × Standing (o .size) place
+unfolding wantedOrder
+wanting o place e = (sized o (left (sizes o) _ e), standing-says (o .size) place (right (sizes o) _ e))
+
 pub placing-says : (o : Order) (place : Place) (table solution : ℕ) → placing o place table solution ≡ passed → Placed o place table solution
-unfolding placing no4 no5 no10 no11
+unfolding placing no4 no5
 placing-says o place table solution e =
     let a = no4 (wholeTable o) table in
     let b = no5 (o .size) solution in
-    let d = no10 (o .size) place in
-    let three : a or b or d ≡ passed = left (a or b or d) _ e in
-    let two : a or b ≡ passed = left (a or b) d three in
+    let two : a or b ≡ passed = left (a or b) (standing (o .size) place) e in
+    let s = standing-says (o .size) place (right (a or b) (standing (o .size) place) e) in
     record {
       whole = same (wholeTable o) table 4 _ (left a b two);
       room = same (o .size) solution 5 _ (right a b two);
-      listed = not-false _ (not-then _ _ (right (a or b) d three));
-      going = not-then _ _ (right (a or b or d) (no11 place) e);
+      listed = s .listed;
+      going = s .going;
     }
 
 -- 6 to 9 passed

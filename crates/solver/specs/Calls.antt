@@ -30,8 +30,10 @@ use Rattle.solver.specs.declared.Stepping.{Stepping}
 use Rattle.solver.specs.declared.Stepping.the-variants as Stepped
 use Rattle.solver.specs.declared.Solving.{Solving}
 use Rattle.solver.specs.declared.Solving.the-variants as Solve
+use Rattle.solver.specs.declared.Wanting.{Wanting}
+use Rattle.solver.specs.declared.Wanting.the-variants as Want
 use Rattle.solver.specs.Told.{Told, passed, refused, Line}
-use Rattle.solver.specs.Refusals.{paper, sizes, dealOrder, gatherOrder, solveOrder, stepOrder, entries}
+use Rattle.solver.specs.Refusals.{paper, sizes, dealOrder, gatherOrder, solveOrder, stepOrder, wantedOrder, entries, maskAt, nonzeroAt}
 
 -- what a call answers: a refusal, by 01's number and detail, or what it gives
 pub data Says (A : Type 0) : Type 0 where
@@ -165,3 +167,21 @@ unfoldable pub stepCall : Progress → Held → List ℕ → List ℕ → Outcom
 stepCall p h mask nonzero =
     call (stepOrder (orderOf p) (p .place) (h .table) (length (h .solution)) (length mask) nonzero) (lent p h)
     (stepDoes p (p .place) h mask nonzero)
+
+-- ---- Wanted: the mask draws and the nonzero draws of the record's place, those that Step asks for by 7 and 8; or refusal 1, 2, 3, 10, 11
+
+pub record Draws : Type 0 where
+  pub mask : ℕ
+  pub nonzero : ℕ
+
+abbrev pub draws : ℕ → ℕ → Draws
+draws mask nonzero = record { mask = mask; nonzero = nonzero }
+
+abbrev pub wantSays : Wanting → Says Draws
+wantSays (Want.Wanted mask nonzero) = gives (draws mask nonzero)
+wantSays (Want.Refused r) = refuses (paper r)
+
+unfoldable pub wantedCall : Progress → Outcome Draws Nothing
+wantedCall p =
+    call (wantedOrder (orderOf p) (p .place)) tt
+    (after (gives (draws (maskAt (orderOf p) (p .place)) (nonzeroAt (orderOf p) (p .place)))) tt)

@@ -212,10 +212,19 @@ solveOrder o t solution mask nonzero =
     or (buffers (o .field) (wholeTable o) t (o .size) solution
     or tapes o mask nonzero)
 
+-- 10, 11
+unfoldable pub standing : ℕ → Place → Told
+standing size place = no10 size place or no11 place
+
+-- Wanted: 1, 2, 3, 10, 11
+unfoldable pub wantedOrder : Order → Place → Told
+wantedOrder o place =
+    sizes o
+    or standing (o .size) place
+
 -- 4, 5, 10, 11
 unfoldable pub placing : Order → Place → ℕ → ℕ → Told
-placing o place table solution =
-    no4 (wholeTable o) table or no5 (o .size) solution or no10 (o .size) place or no11 place
+placing o place table solution = no4 (wholeTable o) table or no5 (o .size) solution or standing (o .size) place
 
 -- 6 to 9, over the draws of the place
 unfoldable pub lending : Order → Place → List ℕ → ℕ → List ℕ → Told

@@ -5,7 +5,7 @@ ghost use Prim.Native.Nat.{_≤_};
 ghost use lib.ListN.{length, take};
 ghost use Rattle.course.specs.StepList.{Sizes, inList, maskCost, nonzeroCost};
 ghost use Rattle.solver.specs.Told.{when, passed, refused, _or_};
-ghost use Rattle.solver.specs.Refusals.{paper, outside, firstPlace, tooLarge, zeroDraw, placed, ended, entries, wholeTable, dealDraws, maskAt, nonzeroAt, zeroPivotOf, columnOf, no1, no6, no7, no9, no12, sizes, buffers, dealOrder, gatherOrder, tapes, solveOrder, placing, lending, stepOrder};
+ghost use Rattle.solver.specs.Refusals.{paper, outside, firstPlace, tooLarge, zeroDraw, placed, ended, entries, wholeTable, dealDraws, maskAt, nonzeroAt, zeroPivotOf, columnOf, no1, no6, no7, no9, no12, sizes, buffers, dealOrder, gatherOrder, tapes, solveOrder, standing, wantedOrder, placing, lending, stepOrder};
 ghost use Rattle.solver.specs.Verdicts.{told};
 ghost use Rattle.solver.specs.Scan.{someBits};
 use super::Refusal;
@@ -157,13 +157,16 @@ fn deal_draws(o: Order) -> usize
     entry_count(o.size) * (o.shares as usize - 1)
 }
 
-// 4 to 6, of what is read and of what is written
+// 4 to 6, of what is read and of what is written. Bytes are looked at only where their length is right, here and below.
 fn buffers(f: u64, wanted: usize, input: &[u8], target: usize, length: usize) -> Verdict
     ensures { λ r. ⌜ told r ≡ buffers f wanted (now (input .entry)) target length ⌝ }
 {
     let v = refuse_if(input.len() != wanted, Refusal::Input(wanted));
     let v = or_else(v, refuse_if(length != target, Refusal::Target(target)));
-    or_else(v, no6(f, input))
+    let Verdict::Pass = v else {
+        return v;
+    };
+    no6(f, input)
 }
 
 fn deal_lent(o: Order, values: &[u8], target: usize, mask: usize) -> Verdict
@@ -217,7 +220,10 @@ fn tapes(o: Order, mask: usize, nonzero: &[u8]) -> Verdict
         v,
         refuse_if(nonzero.len() < others, Refusal::NonzeroTape(others)),
     );
-    or_else(v, no9(o.field, front(nonzero, others)))
+    let Verdict::Pass = v else {
+        return v;
+    };
+    no9(o.field, front(nonzero, others))
 }
 
 fn solve_lent(o: Order, table: &[u8], solution: usize, mask: usize, nonzero: &[u8]) -> Verdict
@@ -225,7 +231,10 @@ fn solve_lent(o: Order, table: &[u8], solution: usize, mask: usize, nonzero: &[u
     ensures { λ r. ⌜ told r ≡ buffers (o .field) (wholeTable o) (now (table .entry)) (o .size) solution or tapes o mask (now (nonzero .entry)) ⌝ }
 {
     let v = buffers(o.field, whole_table(o), table, o.size as usize, solution);
-    or_else(v, tapes(o, mask, nonzero))
+    let Verdict::Pass = v else {
+        return v;
+    };
+    tapes(o, mask, nonzero)
 }
 
 // 1 to 9
@@ -259,6 +268,22 @@ fn is_ended(p: Place) -> bool
     }
 }
 
+// 10, 11
+fn standing(m: u64, p: Place) -> Verdict
+    ensures { λ r. ⌜ told r ≡ standing m p ⌝ }
+{
+    let v = refuse_if(!is_placed(m, p), Refusal::OffList);
+    or_else(v, refuse_if(is_ended(p), Refusal::Ended))
+}
+
+// 1, 2, 3, 10, 11
+pub fn wanted(o: Order, p: Place) -> Verdict
+    ensures { λ r. ⌜ told r ≡ wantedOrder o p ⌝ }
+{
+    let v = sizes(o);
+    or_else(v, standing(o.size, p))
+}
+
 // 4, 5, 10, 11
 fn placing(o: Order, p: Place, table: usize, solution: usize) -> Verdict
     requires { ⌜ Sizes o ⌝ }
@@ -268,11 +293,11 @@ fn placing(o: Order, p: Place, table: usize, solution: usize) -> Verdict
     let m = o.size as usize;
     let v = refuse_if(table != whole, Refusal::Input(whole));
     let v = or_else(v, refuse_if(solution != m, Refusal::Target(m)));
-    let v = or_else(v, refuse_if(!is_placed(o.size, p), Refusal::OffList));
-    or_else(v, refuse_if(is_ended(p), Refusal::Ended))
+    or_else(v, standing(o.size, p))
 }
 
-fn mask_at(o: Order, p: Place) -> usize
+// The mask draws of a place.
+pub fn mask_at(o: Order, p: Place) -> usize
     requires { ⌜ Sizes o ⌝ }
     requires { ⌜ placed (o .size) p ≡ true ⌝ }
     ensures { λ r. ⌜ r ≡ maskAt o p ⌝ }
@@ -284,7 +309,8 @@ fn mask_at(o: Order, p: Place) -> usize
     }
 }
 
-fn nonzero_at(o: Order, p: Place) -> usize
+// Its nonzero draws.
+pub fn nonzero_at(o: Order, p: Place) -> usize
     requires { ⌜ Sizes o ⌝ }
     ensures { λ r. ⌜ r ≡ nonzeroAt o p ⌝ }
 {
@@ -309,7 +335,10 @@ fn lending(o: Order, p: Place, table: &[u8], mask: usize, nonzero: &[u8]) -> Ver
         v,
         refuse_if(nonzero.len() != others, Refusal::NonzeroTape(others)),
     );
-    or_else(v, no9(o.field, nonzero))
+    let Verdict::Pass = v else {
+        return v;
+    };
+    no9(o.field, nonzero)
 }
 
 // Whether the pivot of a Scale is 0, by opening it blinded, on copies: the shares are never summed bare.

@@ -1,11 +1,11 @@
-// The public calls: start, step, solve, deal, gather, and the counts of an order. Stands on walk.
-// The entry calls are `start`, `counts`, `deal`, `gather`, `step` and `solve`: each takes any numbers, tables and tapes, does all its own
+// The public calls: start, step, solve, deal, gather, the counts of an order, and what the next step wants. Stands on walk.
+// The entry calls are `start`, `counts`, `wanted`, `deal`, `gather`, `step` and `solve`: each takes any numbers, tables and tapes, does all its own
 // checking, and promises by one equation its answer and every lent byte, refusals included.
 mod checks;
 
 ghost use mathlib.Core.Path.{_≡_};
 ghost use Rattle.walk.specs.Act.{held};
-ghost use Rattle.solver.specs.Calls.{after, gives, order, startSays, startCall, countSays, countsCall, fillSays, dealCall, gatherCall, solveSays, solveCall, Tells, Taken, stepSays, stepCall, tells, lent};
+ghost use Rattle.solver.specs.Calls.{after, gives, order, startSays, startCall, countSays, countsCall, fillSays, dealCall, gatherCall, solveSays, solveCall, Tells, Taken, stepSays, stepCall, tells, lent, wantSays, wantedCall};
 use checks::Verdict;
 use course::Counts;
 use course::Order;
@@ -46,6 +46,12 @@ pub enum Starting {
 
 pub enum Counting {
     Counted(Counts),
+    Refused(Refusal),
+}
+
+// Mask draws and nonzero draws.
+pub enum Wanting {
+    Wanted(usize, usize),
     Refused(Refusal),
 }
 
@@ -101,6 +107,22 @@ pub fn counts(field: u64, shares: u64, size: u64) -> Counting
     match checks::sizes(o) {
         Verdict::Refuse(r) => Counting::Refused(r),
         Verdict::Pass => Counting::Counted(course::full_counts(o)),
+    }
+}
+
+// The draws that the step at the record's place must be lent, exactly: mask draws and nonzero draws. Or refusal 1, 2, 3, 10, 11.
+pub fn wanted(p: Progress) -> Wanting
+    ensures { λ r. ⌜ after (wantSays r) tt ≡ wantedCall p ⌝ }
+{
+    let o = Order {
+        field: p.field,
+        shares: p.shares,
+        size: p.size,
+    };
+    let place = p.place;
+    match checks::wanted(o, place) {
+        Verdict::Refuse(r) => Wanting::Refused(r),
+        Verdict::Pass => Wanting::Wanted(checks::mask_at(o, place), checks::nonzero_at(o, place)),
     }
 }
 

@@ -20,7 +20,7 @@ use Rattle.course.specs.declared.Place.the-variants.{At}
 use Rattle.course.specs.declared.Order.{Order}
 use Rattle.course.specs.StepList.{Sizes, inList, maskCost, nonzeroCost, fullMask, fullNonzero}
 use Rattle.solver.specs.Told.{Told, passed, refuse, _or_}
-use Rattle.solver.specs.Refusals.{differs, outside, firstPlace, anyPlace, tooLarge, zeroDraw, placed, ended, entries, wholeTable, maskAt, nonzeroAt, zeroPivot, no1, no2, no3, no4, no5, no6, no7, no8, no7step, no8step, no9, no10, no11, no12, sizes, buffers, gatherOrder, tapes, solveOrder, placing, lending, stepOrder}
+use Rattle.solver.specs.Refusals.{differs, outside, firstPlace, anyPlace, tooLarge, zeroDraw, placed, ended, entries, wholeTable, maskAt, nonzeroAt, zeroPivot, no1, no2, no3, no4, no5, no6, no7, no8, no7step, no8step, no9, no10, no11, no12, sizes, buffers, gatherOrder, tapes, solveOrder, standing, placing, lending, stepOrder}
 use Rattle.solver.proofs.Told.{not-then}
 use Rattle.solver.proofs.Scan.{before-first}
 
@@ -114,9 +114,9 @@ module _ (o : Order) (z : Sizes o) (t : List ℕ) (whole : length t ≡ wholeTab
       → solution ≡ o .size → mask ≡ maskCost o s → length nonzero ≡ nonzeroCost o s
       → ((k : ℕ) → k < length nonzero → drawAt (fieldOf (o .field)) nonzero k ≡ 0 → ⊥)
       → stepOrder o (At s) t solution mask nonzero ≡ passed
-  unfolding stepOrder placing lending no4 no5 no7step no8step no10 no11 no12 placed ended maskAt nonzeroAt
+  unfolding stepOrder placing standing lending no4 no5 no7step no8step no10 no11 no12 placed ended maskAt nonzeroAt
   step-passes s solution mask nonzero listed pivot a b c d =
       sizes-pass o z
-      and (right-length 4 _ whole and right-length 5 _ a and unmet 10 _ (ap not listed) and refl
+      and (right-length 4 _ whole and right-length 5 _ a and (unmet 10 _ (ap not listed) and refl)
       and (six-passes (o .field) t elements and right-length 7 _ b and right-length 8 _ c and nine-passes (o .field) nonzero d
       and unmet 12 _ pivot))

@@ -7,3 +7,4 @@ pub mod Reached
 pub mod Trace
 pub mod Progress
 pub mod Dealt
+pub mod Wanted

@@ -1,13 +1,12 @@
 -- Demand 3: what a host does by step calls, however many and with refused ones among them, and the whole solve are one and the same. `o` is
 -- an order of right sizes, t any first table, y any first solution, and cs any calls from a record of Start.
 -- Assumes nothing.
-use mathlib.Core.Bool.{true}
+use mathlib.Core.Bool.{true, false, not}
 use mathlib.Core.List.{List, [], _∷_, _++_}
 use mathlib.Core.Logic.{_⊎_}
 use mathlib.Core.Path.{_≡_, refl, ap, _∙_}
-use Prim.Native.Nat.{ℕ, _<_}
-use native.Mathlib.Omega.{arith}
-use lib.ListN.{length}
+use Prim.Native.Nat.{ℕ}
+use lib.ListN.{length, getD}
 use borrow.Author.Tests.{le-ltb}
 use Rattle.course.specs.declared.Step.{Step}
 use Rattle.course.specs.declared.Place.{Place}
@@ -21,10 +20,16 @@ use Rattle.solver.specs.Told.{passed}
 use Rattle.solver.specs.Refusals.{outside, placed, solveOrder}
 use Rattle.solver.specs.Calls.{call, solveDoes, solveCall}
 use Rattle.trace.specs.Trace.{Beside, Host, begin, hostAfter, drive, orderIn, Refused, Accepted, countsIn, Counted, Begins, Agrees, Never}
-use Rattle.trace.proofs.Verdict.{never-given}
+use Rattle.trace.proofs.Verdict.{tests, never-given}
 use Rattle.trace.proofs.Call.{each-call, refusal}
 use Rattle.walk.proofs.Walked.{courseOf, walk-append, walk-stopped}
 use Rattle.trace.proofs.Reached.{tallyOf, Reached, reached, order-kept}
+
+-- a refusal whose test does not hold is not given
+pub unmet : (h : Host) (c : Beside) (k : ℕ)
+    → getD (tests (orderIn h) (h .progress .place) (h .table) (length (c .solution)) (length (c .mask)) (c .nonzero)) k false ≡ false → Never k h c
+unmet h c k e l g =
+    never-given (orderIn h) (h .progress .place) (h .table) (length (c .solution)) (length (c .mask)) (c .nonzero) k e .never l (refusal h c l g)
 
 -- a run is its calls one by one
 pub last-call : (h : Host) (cs : List Beside) (c : Beside) → drive h (cs ++ (c ∷ [])) ≡ hostAfter (drive h cs) c
@@ -109,14 +114,9 @@ module _ (o : Order) (sized : Sizes o) (t y : List ℕ) (cs : List Beside) where
     agrees-call e = rw e agrees
 
   -- 4. Refusals 10 and 12 are not met
-  never : (k : ℕ) → 9 < k → (11 ≡ k → ⊥) → (c : Beside) → Never k d c
-  never k late not-11 c l e =
-      let g = reached o sized t y cs in
-      never-given k late not-11 (orderIn d) (d .progress .place) (d .table) (length (c .solution)) (length (c .mask)) (c .nonzero)
-      (rw order-kept (placed-at o t y d g (d .progress .place) refl)) (rw order-kept (g .firm)) .never l (refusal d c l e)
-
   pub never-off-list : (c : Beside) → Never 10 d c
-  never-off-list c = never 10 (omega arith) (λ e. omega arith) c
+  never-off-list c =
+      unmet d c 10 (rw (order-kept, placed-at o t y d (reached o sized t y cs) (d .progress .place) refl))
 
   pub never-zero-pivot : (c : Beside) → Never 12 d c
-  never-zero-pivot c = never 12 (omega arith) (λ e. omega arith) c
+  never-zero-pivot c = unmet d c 12 (rw order-kept (reached o sized t y cs .firm))

@@ -1,8 +1,9 @@
--- `checks::lending` meets its contract: each check tells what its definition says, and they are joined in its order.
+-- `checks::lending` meets its contract: a refusal of 6 or of a length stands, and after a pass the order is the rest of it.
 -- Assumes nothing.
+use mathlib.Core.Path.{_∙_}
 use borrow.Author.Needs.{needs}
 use Rattle.solver.specs.Refusals.{lending, no7step, no8step}
-use Rattle.solver.proofs.Verdicts.{ors}
+use Rattle.solver.proofs.Verdicts.{stops-at, goes-on, ors}
 use Rattle.solver.proofs.checks.lending.Statement.{statement}
 use Rattle.solver.proofs.checks.lending.Tie as tie
 
@@ -27,22 +28,35 @@ refuse-if-requires-2 c κs = search needs
 or-else-requires-2 : tie.Need-or-else-requires-2
 or-else-requires-2 c κs = search needs
 
-no9-requires : tie.Need-no9-requires
-no9-requires c κs = search needs
+enum-told : tie.Need-enum-told
+enum-told c = search needs
 
-or-else-requires-3 : tie.Need-or-else-requires-3
-or-else-requires-3 c κs = search needs
+enum-told-2 : tie.Need-enum-told-2
+enum-told-2 c = search needs
 
 returns : tie.Need-returns
 unfolding lending no7step no8step
 returns c =
-    rw (← (c .before .before .before .before .before .before .before .before .mask-at .ensures), ← (c .before .before .before .before .before .before .before .nonzero-at .ensures))
-    (ors (c .or-else3 .ensures)
-    (ors (c .before .before .or-else2 .ensures)
-    (ors (c .before .before .before .before .or-else .ensures) (c .before .before .before .before .before .before .no6 .ensures)
-    (c .before .before .before .before .before .refuse-if .ensures))
-    (c .before .before .before .refuse-if2 .ensures))
-    (c .before .no9 .ensures))
+    let l = c .before .before in
+    let s = l .before .before .before .before in
+    rw (← (s .before .before .mask-at .ensures), ← (s .before .nonzero-at .ensures))
+    (stops-at _ _ _ _
+    (ors (l .or-else2 .ensures) (ors (l .before .before .or-else .ensures) (s .no6 .ensures) (l .before .before .before .refuse-if .ensures)) (l .before .refuse-if2 .ensures))
+    (c .enum-told2 .given .1))
+
+no9-requires : tie.Need-no9-requires
+no9-requires c κs = search needs
+
+returns-2 : tie.Need-returns-2
+unfolding lending no7step no8step
+returns-2 c =
+    let l = c .before .before .before in
+    let s = l .before .before .before .before in
+    rw (← (s .before .before .mask-at .ensures), ← (s .before .nonzero-at .ensures))
+    (c .no9 .ensures
+    ∙ goes-on _ _ _
+    (ors (l .or-else2 .ensures) (ors (l .before .before .or-else .ensures) (s .no6 .ensures) (l .before .before .before .refuse-if .ensures)) (l .before .refuse-if2 .ensures))
+    (c .before .enum-told .given .1))
 
 pub lending-spec : {M : Type 1} → statement M
 lending-spec =
@@ -55,6 +69,8 @@ lending-spec =
     or-else-requires
     refuse-if-requires-2
     or-else-requires-2
+    enum-told
+    enum-told-2
+    returns
     no9-requires
-    or-else-requires-3
-    returns)
+    returns-2)

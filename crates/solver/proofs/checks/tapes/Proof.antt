@@ -1,11 +1,11 @@
--- `checks::tapes` meets its contract: each check tells what its definition says, and they are joined in its order.
+-- `checks::tapes` meets its contract: a refusal of a length stands, and after a pass the order is the rest of it.
 -- Assumes nothing.
 use mathlib.Core.Path.{ap, _∙_}
 use borrow.Author.Needs.{needs}
 use Rattle.course.specs.StepList.{sums}
 use Rattle.course.specs.declared.Counts.{Counts}
 use Rattle.solver.specs.Refusals.{tapes, no7, no8, no9}
-use Rattle.solver.proofs.Verdicts.{ors}
+use Rattle.solver.proofs.Verdicts.{stops-at, goes-on, ors}
 use Rattle.solver.proofs.checks.tapes.Statement.{statement}
 use Rattle.solver.proofs.checks.tapes.Tie as tie
 
@@ -21,23 +21,34 @@ refuse-if-requires-2 c κs = search needs
 or-else-requires : tie.Need-or-else-requires
 or-else-requires c κs = search needs
 
+enum-told : tie.Need-enum-told
+enum-told c = search needs
+
+enum-told-2 : tie.Need-enum-told-2
+enum-told-2 c = search needs
+
+returns : tie.Need-returns
+unfolding tapes no7 no8 sums
+returns c =
+    let l = c .before .before in
+    let e = l .before .before .before .full-counts .ensures in
+    rw (← (ap (λ (k : Counts). k .mask) e), ← (ap (λ (k : Counts). k .nonzero) e))
+    (stops-at _ _ _ _ (ors (l .or-else .ensures) (l .before .before .refuse-if .ensures) (l .before .refuse-if2 .ensures)) (c .enum-told2 .given .1))
+
 front-requires : tie.Need-front-requires
 front-requires c κs = search needs
 
 no9-requires : tie.Need-no9-requires
 no9-requires c κs = search needs
 
-or-else-requires-2 : tie.Need-or-else-requires-2
-or-else-requires-2 c κs = search needs
-
-returns : tie.Need-returns
+returns-2 : tie.Need-returns-2
 unfolding tapes no7 no8 sums
-returns c =
-    let e = c .before .before .before .before .before .before .full-counts .ensures in
+returns-2 c =
+    let l = c .before .before .before .before in
+    let e = l .before .before .before .full-counts .ensures in
     rw (← (ap (λ (k : Counts). k .mask) e), ← (ap (λ (k : Counts). k .nonzero) e))
-    (ors (c .or-else2 .ensures)
-    (ors (c .before .before .before .or-else .ensures) (c .before .before .before .before .before .refuse-if .ensures) (c .before .before .before .before .refuse-if2 .ensures))
-    (c .before .no9 .ensures ∙ ap (no9 (c .before .before .before .before .before .before .before .before .args .o .field)) (c .before .before .front .ensures)))
+    (c .no9 .ensures ∙ ap (no9 (l .before .before .before .before .before .args .o .field)) (c .before .front .ensures)
+    ∙ goes-on _ _ _ (ors (l .or-else .ensures) (l .before .before .refuse-if .ensures) (l .before .refuse-if2 .ensures)) (c .before .before .enum-told .given .1))
 
 pub tapes-spec : {M : Type 1} → statement M
 tapes-spec =
@@ -47,7 +58,9 @@ tapes-spec =
     refuse-if-requires
     refuse-if-requires-2
     or-else-requires
+    enum-told
+    enum-told-2
+    returns
     front-requires
     no9-requires
-    or-else-requires-2
-    returns)
+    returns-2)

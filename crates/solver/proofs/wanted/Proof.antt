@@ -1,0 +1,50 @@
+-- `solver::wanted` meets its contract: a pass gives what the costs of a place ask for.
+-- Assumes nothing.
+use mathlib.Core.Path.{ap₂, _∙_}
+use Prim.Native.Nat.{ℕ}
+use borrow.Author.Needs.{needs}
+use Rattle.solver.specs.Calls.{after, gives, draws, wantedCall}
+use Rattle.solver.proofs.Calls.{refuses-call, passes-call}
+use Rattle.solver.proofs.Ready.{wanting}
+use Rattle.solver.proofs.Verdicts.{passes}
+use Rattle.solver.proofs.wanted.Statement.{statement}
+use Rattle.solver.proofs.wanted.Tie as tie
+
+wanted-requires : tie.Need-wanted-requires
+wanted-requires c κs = search needs
+
+enum-known-r : tie.Need-enum-known-r
+enum-known-r c = search needs
+
+enum-told : tie.Need-enum-told
+enum-told c = search needs
+
+mask-at-requires : tie.Need-mask-at-requires
+mask-at-requires c κs =
+    let w = wanting _ _ (passes _ _ (c .before .before .wanted .ensures) (c .enum-told .given .1)) in
+    (w .0, w .1 .listed)
+
+nonzero-at-requires : tie.Need-nonzero-at-requires
+nonzero-at-requires c κs = wanting _ _ (passes _ _ (c .before .before .before .wanted .ensures) (c .before .enum-told .given .1)) .0
+
+returns : tie.Need-returns
+unfolding wantedCall
+returns c = refuses-call _ _ _ _ _ (c .before .before .before .wanted .ensures) (c .before .r .given .1)
+
+returns-2 : tie.Need-returns-2
+unfolding wantedCall
+returns-2 c =
+    ap₂ (λ (m z : ℕ). after (gives (draws m z)) tt) (c .before .mask-at .ensures) (c .nonzero-at .ensures)
+    ∙ passes-call _ _ _ _ (c .before .before .before .before .wanted .ensures) (c .before .before .enum-told .given .1)
+
+pub wanted-spec : {M : Type 1} → statement M
+wanted-spec =
+    tie.close
+    (tie.spec
+    wanted-requires
+    enum-known-r
+    enum-told
+    mask-at-requires
+    nonzero-at-requires
+    returns
+    returns-2)

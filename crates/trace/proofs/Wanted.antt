@@ -1,0 +1,35 @@
+-- What `wanted` says is what the next call must be lent: a call with these lengths is not refused 7 or 8.
+-- Assumes nothing.
+use mathlib.Core.Bool.{not}
+use mathlib.Core.Path.{_≡_, refl, ap, _∙_}
+use Prim.Native.Nat.{ℕ}
+use native.Mathlib.Omega.{arith}
+use lib.ListN.{length}
+use borrow.Author.Tests.{eq-eqb}
+use Rattle.solver.specs.Told.{Told, passed, refused}
+use Rattle.solver.specs.Refusals.{maskAt, nonzeroAt, wantedOrder}
+use Rattle.solver.specs.Calls.{refuses, gives, call, Draws, draws, wantedCall}
+use Rattle.trace.specs.Trace.{Beside, Host, orderIn, Never}
+use Rattle.trace.proofs.Trace.{unmet}
+
+module _ (h : Host) (c : Beside) (d : Draws) where
+  told : (w : Told) → wantedOrder (orderIn h) (h .progress .place) ≡ w → wantedCall (h .progress) .says ≡ gives d
+      → d ≡ draws (maskAt (orderIn h) (h .progress .place)) (nonzeroAt (orderIn h) (h .progress .place))
+  unfolding wantedCall call
+  told passed e g =
+      let same : gives (draws (maskAt (orderIn h) (h .progress .place)) (nonzeroAt (orderIn h) (h .progress .place))) ≡ gives d = rw e at g in
+      cc
+  told (refused l) e g =
+      let same : refuses l ≡ gives d = rw e at g in
+      let z : _≡_ {A = ℕ} 0 1 = cc in
+      absurd (let n : ⊥ = omega arith in n)
+
+  module _ (says : wantedCall (h .progress) .says ≡ gives d) where
+    wants : d ≡ draws (maskAt (orderIn h) (h .progress .place)) (nonzeroAt (orderIn h) (h .progress .place))
+    wants = told (wantedOrder (orderIn h) (h .progress .place)) refl says
+
+    pub wanted-mask : length (c .mask) ≡ d .mask → Never 7 h c
+    wanted-mask l = unmet h c 7 (ap not (eq-eqb _ _ (l ∙ ap (λ (e : Draws). e .mask) wants)))
+
+    pub wanted-nonzero : length (c .nonzero) ≡ d .nonzero → Never 8 h c
+    wanted-nonzero l = unmet h c 8 (ap not (eq-eqb _ _ (l ∙ ap (λ (e : Draws). e .nonzero) wants)))
