@@ -248,7 +248,7 @@ static void solve_row(uint64_t seed, uint64_t field, uint64_t n, uint64_t m, con
     for (size_t e = 0; e < entries(&t); e++)
         set_value(&t, e, values[e]);
     memcpy(given, table, sizeof table);
-    t.mask.taken = full_mask_draws(field, n, m);
+    t.mask.taken = model_full_mask_draws(field, n, m);
     t.nonzero.taken = m * (n - 1);
     uint64_t code = model_solve(field, n, m, table, entries(&t) * n, solution, m, mask, t.mask.taken, nonzero, t.nonzero.taken,
                                 answer + 1, HZ_ANSWER_WORDS);
