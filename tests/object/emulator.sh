@@ -1,4 +1,4 @@
-# After tests/host/machine.sh. For tests and benches that emulate single functions:
+# After build/machine.sh. For tests and benches that emulate single functions:
 # the emulator library Unicorn, installed if missing, and how such programs are built.
 have cc || install_packages gcc libc6-dev
 [ -e /usr/include/unicorn/unicorn.h ] || install_packages libunicorn-dev

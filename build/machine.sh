@@ -5,15 +5,17 @@
 # Sourced from the top of the clone.
 
 # Where a package can't be had this ends the script with 77, which the gate takes
-# for 'left out' and not for a failure.
+# for 'left out' and not for a failure; or with the number in without_package,
+# where the script has one of its own.
 install_packages() {
     if [ "$(id -u)" -eq 0 ]; then as_root=''; else as_root=sudo; fi
     mkdir -p target
+    echo "installing from Debian: $*" >&2
     $as_root apt-get update >target/apt.log 2>&1 || true # the lists may be there already
     if ! $as_root env DEBIAN_FRONTEND=noninteractive \
         apt-get install -y --no-install-recommends "$@" >>target/apt.log 2>&1; then
         echo "needs from Debian, and can't install: $* (target/apt.log says why)" >&2
-        exit 77
+        exit "${without_package:-77}"
     fi
 }
 
