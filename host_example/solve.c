@@ -71,30 +71,6 @@ static void in_one_call(void)
     printf("left in the table: %d %d | %d   %d %d | %d\n", left[0], left[1], left[2], left[3], left[4], left[5]);
 }
 
-/* How many draws the step at this record wants (hostozaro.h has the formulas). */
-static void draws_of(const uint64_t *record, size_t *mask, size_t *nonzero)
-{
-    size_t n = SHARES, f = FIELD == 16 ? 2 : 3, pairs = n * (n - 1) / 2, columns = SIZE + 2 - record[HZ_J];
-    *nonzero = 0;
-    switch (record[HZ_STEP]) {
-    case HZ_MIX:
-        *mask = f * (n - 1 + pairs) + columns * pairs;
-        break;
-    case HZ_CHECK:
-        *mask = f * (n - 1 + pairs) + pairs;
-        break;
-    case HZ_SCALE:
-        *mask = (n - 1) * (n - 1) + pairs + n * (n - 1) * columns;
-        *nonzero = n - 1;
-        break;
-    case HZ_CLEAR:
-        *mask = columns * pairs;
-        break;
-    default: /* HZ_OPEN */
-        *mask = pairs;
-    }
-}
-
 static void by_steps(void)
 {
     static const char *const names[] = {"Mix", "Check", "Scale", "Clear", "Open"};
@@ -103,8 +79,8 @@ static void by_steps(void)
     deal(table);
     must(hz_start(FIELD, SHARES, SIZE, record, HZ_RECORD_WORDS, answer, HZ_ANSWER_WORDS), HZ_FRESH);
     do {
-        size_t mask_draws, nonzero_draws;
-        draws_of(record, &mask_draws, &nonzero_draws);
+        must(hz_wanted(record, HZ_RECORD_WORDS, answer, HZ_ANSWER_WORDS), HZ_WANTED);
+        size_t mask_draws = answer[0], nonzero_draws = answer[1];
         uint8_t *mask = tape(mask_draws, 0), *nonzero = tape(nonzero_draws, 1);
         printf("%s(%" PRIu64, names[record[HZ_STEP]], record[HZ_J]);
         if (record[HZ_K] != 0)
