@@ -5,6 +5,7 @@
  * SEED is 1 where none is given. With CASE only that case is run: each case's
  * numbers come from the seed and the case's own number alone. The first
  * difference is printed as one line and ends the run. */
+#define _DEFAULT_SOURCE /* for mmap */
 #include "hostozaro.h"
 #include "model.h"
 
@@ -14,6 +15,7 @@
 #include <stdio.h>
 #include <stdlib.h>
 #include <string.h>
+#include <sys/mman.h>
 
 #define RANDOM_CASES 16000
 #define MAX_TABLE (96 * 97 * 4)
@@ -22,6 +24,7 @@
 #define SPARE 4096 /* how much longer than right one fault makes a buffer */
 #define ROOM (4 * SPARE)
 #define GUARD 32
+#define PAGE 65536 /* a multiple of every machine's page */
 
 /* ---- Random numbers ---- */
 
@@ -57,14 +60,17 @@ static void fill(uint8_t *bytes, size_t len)
 /* ---- Lent buffers ----
  *
  * Each stands three times: what is lent, the library's copy and the model's. The
- * bytes around it are compared too. An accepted call's results become what is
- * lent next, so a run of steps goes on by itself. */
+ * library's copy ends where a page begins that can be neither read nor written,
+ * and the bytes in front of it are compared too. An accepted call's results
+ * become what is lent next, so a run of steps goes on by itself. */
 
 typedef struct {
     const char *name;
     size_t capacity, width; /* in elements; bytes to an element */
     size_t len;             /* in elements */
+    size_t more;            /* so many more are said to be there, and are not */
     uint8_t *lent, *library, *model;
+    uint8_t *page; /* the library's copy ends here */
 } buffer;
 
 static buffer table = {.name = "table", .capacity = MAX_TABLE + ROOM, .width = 1};
@@ -80,17 +86,24 @@ static uint64_t *words(const buffer *b)
     return (uint64_t *)(void *)b->lent;
 }
 
+/* Room for a copy, with a guard in front. */
+static uint8_t *make_copy(const buffer *b)
+{
+    uint8_t *block = malloc(GUARD + b->capacity * b->width);
+    if (block == NULL)
+        exit(2);
+    return block + GUARD;
+}
+
 static void make_buffer(buffer *b)
 {
-    uint8_t **copies[] = {&b->lent, &b->library, &b->model};
-    size_t odd = b->width == 1 ? 3 : 0; /* bytes may lie anywhere */
-    for (int i = 0; i < 3; i++) {
-        size_t room = b->capacity * b->width + 2 * GUARD + odd;
-        uint8_t *block = malloc(room);
-        if (block == NULL)
-            exit(2);
-        *copies[i] = block + GUARD + odd;
-    }
+    size_t room = (GUARD + b->capacity * b->width + PAGE - 1) / PAGE * PAGE;
+    uint8_t *block = mmap(NULL, room + PAGE, PROT_READ | PROT_WRITE, MAP_PRIVATE | MAP_ANONYMOUS, -1, 0);
+    if (block == MAP_FAILED || mprotect(block + room, PAGE, PROT_NONE) != 0)
+        exit(2);
+    b->page = block + room;
+    b->lent = make_copy(b);
+    b->model = make_copy(b);
 }
 
 static size_t bytes_of(const buffer *b)
@@ -98,12 +111,15 @@ static size_t bytes_of(const buffer *b)
     return b->len * b->width;
 }
 
-/* What is lent, into one side's copy, between guards. */
-static void lend(const buffer *b, uint8_t *to)
+/* What is lent, into both sides' copies. */
+static void lend(buffer *b)
 {
-    memset(to - GUARD, 0xa5, GUARD);
-    memcpy(to, b->lent, bytes_of(b));
-    memset(to + bytes_of(b), 0x5a, GUARD);
+    b->library = b->page - bytes_of(b);
+    uint8_t *copies[] = {b->library, b->model};
+    for (int i = 0; i < 2; i++) {
+        memset(copies[i] - GUARD, 0xa5, GUARD);
+        memcpy(copies[i], b->lent, bytes_of(b));
+    }
 }
 
 /* Changes the length; new bytes are random. */
@@ -119,7 +135,7 @@ static void stretch(buffer *b, size_t len)
 static uint64_t field, shares, size; /* what the next call is given */
 static uint64_t calls, calls_in_case;
 
-enum { START, STEP, SOLVE, DEAL, GATHER, COUNTS, KINDS };
+enum { START, WANTED, STEP, SOLVE, DEAL, GATHER, COUNTS, KINDS };
 
 static const struct {
     const char *name;
@@ -127,6 +143,7 @@ static const struct {
     const buffer *in[3]; /* those that are const */
 } kinds[KINDS] = {
     [START] = {"hz_start", {&record, &answer}, {NULL}},
+    [WANTED] = {"hz_wanted", {&record, &answer}, {&record}},
     [STEP] = {"hz_step", {&record, &table, &solution, &mask, &nonzero, &answer}, {&mask, &nonzero}},
     [SOLVE] = {"hz_solve", {&table, &solution, &mask, &nonzero, &answer}, {&mask, &nonzero}},
     [DEAL] = {"hz_deal", {&values, &table, &mask, &answer}, {&values, &mask}},
@@ -141,13 +158,16 @@ static void difference(void)
 {
     printf("DIFFERENCE seed %" PRIu64 " case %" PRIu64 " call %" PRIu64 " %s", seed, case_number, calls_in_case,
            kinds[last_kind].name);
-    if (last_kind == STEP)
+    if (last_kind == STEP || last_kind == WANTED)
         for (size_t i = 0; i < record.len; i++)
             printf("%s%" PRIu64, i == 0 ? " record " : ",", words(&record)[i]);
     else
         printf(" field %" PRIu64 " shares %" PRIu64 " size %" PRIu64, field, shares, size);
-    for (buffer *const *b = kinds[last_kind].lent; *b != NULL; b++)
-        printf(" %s[%zu]", (*b)->name, (*b)->len);
+    for (buffer *const *b = kinds[last_kind].lent; *b != NULL; b++) {
+        printf(" %s[%zu]", (*b)->name, (*b)->len + (*b)->more);
+        if ((*b)->more != 0)
+            printf(" (%zu there)", (*b)->len);
+    }
     printf(": ");
 }
 
@@ -176,12 +196,12 @@ static void demand(bool holds, const char *what)
     end_failed();
 }
 
-/* The library's copy is what is wanted, and so are the guards around it, which
+/* The library's copy is what is wanted, and so is the guard in front of it, which
  * `wanted` has only in the model's copy. */
 static void same_bytes(const buffer *b, const uint8_t *wanted, const char *whose)
 {
     size_t guard = wanted == b->model ? GUARD : 0;
-    if (memcmp(b->library - guard, wanted - guard, bytes_of(b) + 2 * guard) == 0)
+    if (memcmp(b->library - guard, wanted - guard, bytes_of(b) + guard) == 0)
         return;
     int64_t at = -(int64_t)guard;
     while (b->library[at] == wanted[at])
@@ -191,8 +211,8 @@ static void same_bytes(const buffer *b, const uint8_t *wanted, const char *whose
     end_failed();
 }
 
-#define BYTES(copy, b) (b).copy, (b).len
-#define WORDS(copy, b) (uint64_t *)(void *)(b).copy, (b).len
+#define BYTES(copy, b) (b).copy, (b).len + (b).more
+#define WORDS(copy, b) (uint64_t *)(void *)(b).copy, (b).len + (b).more
 
 /* One side's call; `side` is hz or model, `copy` the buffers' member for it. */
 #define CALL(side, copy)                                                                                              \
@@ -201,6 +221,8 @@ static void same_bytes(const buffer *b, const uint8_t *wanted, const char *whose
         switch (kind) {                                                                                               \
         case START:                                                                                                   \
             return side##_start(field, shares, size, WORDS(copy, record), WORDS(copy, answer));                      \
+        case WANTED:                                                                                                  \
+            return side##_wanted(WORDS(copy, record), WORDS(copy, answer));                                          \
         case STEP:                                                                                                    \
             return side##_step(WORDS(copy, record), BYTES(copy, table), BYTES(copy, solution), BYTES(copy, mask),    \
                                BYTES(copy, nonzero), WORDS(copy, answer));                                            \
@@ -228,10 +250,8 @@ static uint64_t call(int kind)
     calls++;
     calls_in_case++;
     fill(answer.lent, bytes_of(&answer));
-    for (int i = 0; lent[i] != NULL; i++) {
-        lend(lent[i], lent[i]->library);
-        lend(lent[i], lent[i]->model);
-    }
+    for (int i = 0; lent[i] != NULL; i++)
+        lend(lent[i]);
     uint64_t wanted = model_call(kind), code = hz_call(kind);
     if (code != wanted) {
         difference();
@@ -716,10 +736,10 @@ static void case_trace(uint64_t system, uint64_t refusals_one_in)
     demand(call(START) == HZ_FRESH, "no fresh record");
 
     uint64_t steps = 0, mask_taken = 0, nonzero_taken = 0, code;
-    uint64_t *place = words(&record);
     do {
-        mask.len = model_mask_draws(field, shares, size, place[HZ_STEP], place[HZ_J]);
-        nonzero.len = model_nonzero_draws(shares, place[HZ_STEP]);
+        demand(call(WANTED) == HZ_WANTED, "not told what the step wants");
+        mask.len = words(&answer)[0];
+        nonzero.len = words(&answer)[1];
         memcpy(mask.lent, whole_mask + mask_taken, mask.len);
         memcpy(nonzero.lent, whole_nonzero + nonzero_taken, nonzero.len);
         if (one_in(refusals_one_in))
@@ -735,6 +755,7 @@ static void case_trace(uint64_t system, uint64_t refusals_one_in)
     memcpy(stepped_table, table.lent, table.len);
     memcpy(stepped_solution, solution.lent, size);
     demand(call(STEP) == HZ_REFUSED && words(&answer)[0] == 11, "an ended run is not refused");
+    demand(call(WANTED) == HZ_REFUSED && words(&answer)[0] == 11, "an ended run is not refused");
 
     memcpy(table.lent, first_table, table.len);
     mask.len = full_mask();
@@ -803,18 +824,22 @@ static void case_made_up(void)
         break;
     }
     set_record(step, j, k);
-    uint64_t *place = words(&record);
     for (int i = 0; i < 4; i++) {
-        uint64_t wanted = 0;
-        if (place[HZ_STEP] <= HZ_OPEN && place[HZ_J] <= size + 1)
-            wanted = model_mask_draws(field, shares, size, place[HZ_STEP], place[HZ_J]);
-        make_mask(wanted);
-        make_nonzero(model_nonzero_draws(shares, place[HZ_STEP]));
+        bool told = call(WANTED) == HZ_WANTED;
+        uint64_t first = words(&answer)[0]; /* the mask draws, or the number of the refusal */
+        make_mask(told ? first : below(9));
+        make_nonzero(told ? words(&answer)[1] : below(3));
         if (one_in(8))
             plant_zero_draw();
         if (one_in(16))
             damage(&table);
-        if (call(STEP) == HZ_REFUSED)
+        bool refused = call(STEP) == HZ_REFUSED;
+        uint64_t number = refused ? words(&answer)[0] : 0;
+        if (told)
+            demand(number != 7 && number != 8, "refused with just the draws that hz_wanted told");
+        else
+            demand(number == first, "hz_wanted was refused by another number");
+        if (refused)
             break;
     }
 }
@@ -899,7 +924,165 @@ static void case_of_refused_shares(uint64_t i)
         mask.len = model_mask_draws(field, shares, size, step, 1);
         nonzero.len = model_nonzero_draws(shares, step);
         call_with(given, STEP);
+        call_with(given, WANTED);
     }
+}
+
+/* What is wanted at every place of small systems, and at places around those. */
+#define SMALL 6
+#define ALL_SMALL (2 * 3 * SMALL)
+static void case_of_places(uint64_t i)
+{
+    field = i % 2 == 0 ? 16 : 256;
+    shares = 2 + i / 2 % 3;
+    size = 1 + i / 6;
+    fresh_words();
+    for (uint64_t step = HZ_MIX; step <= HZ_AT_DONE + 1; step++)
+        for (uint64_t j = 0; j <= size + 1; j++)
+            for (uint64_t k = 0; k <= size + 1; k++) {
+                set_record(step, j, k);
+                call(WANTED);
+            }
+}
+
+/* ---- Lengths that are not true ----
+ *
+ * The bytes of a buffer are looked at only once its length is right. So a buffer
+ * of wrong length may have no byte that can be read, and is refused all the same. */
+
+/* The number by which each call refuses a wrong length of each buffer. Some tapes
+ * may be longer than is needed. */
+static const struct {
+    int kind;
+    buffer *lent;
+    uint64_t number;
+    bool may_be_longer;
+} lengths[] = {
+    {STEP, &table, 4, false},   {STEP, &solution, 5, false},  {STEP, &mask, 7, false}, {STEP, &nonzero, 8, false},
+    {SOLVE, &table, 4, false},  {SOLVE, &solution, 5, false}, {SOLVE, &mask, 7, true}, {SOLVE, &nonzero, 8, true},
+    {DEAL, &values, 4, false},  {DEAL, &table, 5, false},     {DEAL, &mask, 7, true},
+    {GATHER, &table, 4, false}, {GATHER, &values, 5, false},
+};
+#define LENGTHS (sizeof lengths / sizeof lengths[0])
+
+/* Right inputs for a call. hz_step's step works on the last rows. */
+static void make_right(int kind, uint64_t step)
+{
+    make_values(RANDOM);
+    make_table();
+    solution.len = size;
+    fill(solution.lent, size);
+    fresh_words();
+    bool pair = step == HZ_MIX || step == HZ_CLEAR;
+    uint64_t j = pair ? size - 1 : size;
+    set_record(step, j, pair ? size : 0);
+    make_mask(kind == STEP ? model_mask_draws(field, shares, size, step, j)
+              : kind == DEAL ? values.len * (shares - 1)
+                             : full_mask());
+    make_nonzero(kind == STEP ? model_nonzero_draws(shares, step) : full_nonzero());
+}
+
+/* The call is told of more elements than are there. */
+static void claim(buffer *b, size_t told, size_t there)
+{
+    b->len = there;
+    b->more = told - there;
+}
+
+/* One length is wrong; of that buffer the right number of elements is there, or
+ * none. */
+static void one_wrong_length(size_t which, uint64_t step)
+{
+    int kind = lengths[which].kind;
+    buffer *b = lengths[which].lent;
+    make_right(kind, step);
+    size_t right = b->len;
+    size_t wrong[] = {0, right - 1, right + 1, right + 16, right + PAGE, (size_t)1 << 32, ((size_t)1 << 32) + right,
+                      (size_t)1 << 63, SIZE_MAX - 1, SIZE_MAX};
+    for (size_t i = 0; i < sizeof wrong / sizeof wrong[0]; i++) {
+        if (wrong[i] == right)
+            continue;
+        size_t there[] = {wrong[i] < right ? wrong[i] : right, 0};
+        bool needed = lengths[which].may_be_longer && wrong[i] > right; /* and then its first bytes are read */
+        for (int half = 0; half < (needed ? 1 : 2); half++) {
+            claim(b, wrong[i], there[half]);
+            uint64_t code = call(kind);
+            const uint64_t *told = words(&answer);
+            if (needed)
+                demand(code != HZ_REFUSED, "refused, though the tape is long enough");
+            else
+                demand(code == HZ_REFUSED && told[0] == lengths[which].number && told[1] == right,
+                       "not refused for the length");
+            claim(b, right, right);
+        }
+        if (needed)
+            make_right(kind, step);
+    }
+}
+
+/* This length and all those after it in the call's order are wrong, and nothing
+ * is there of any of them. */
+static void all_wrong_from(size_t which, uint64_t step)
+{
+    int kind = lengths[which].kind;
+    make_right(kind, step);
+    for (size_t i = which; i < LENGTHS && lengths[i].kind == kind; i++)
+        claim(lengths[i].lent, lengths[i].may_be_longer ? lengths[i].lent->len - 1 : SIZE_MAX - below(9), 0);
+    demand(call(kind) == HZ_REFUSED && words(&answer)[0] == lengths[which].number, "not refused for the first wrong length");
+    for (size_t i = which; i < LENGTHS && lengths[i].kind == kind; i++)
+        lengths[i].lent->more = 0;
+}
+
+/* Nothing is there at all: numbers and words are refused before any length. */
+static void nothing_there(void)
+{
+    buffer *all[] = {&table, &solution, &values, &mask, &nonzero};
+    for (int i = 0; i < 5; i++)
+        claim(all[i], absurd(), 0);
+    fresh_words();
+    set_record(HZ_CHECK, 1, 0);
+    uint64_t *given[] = {&field, &shares, &size};
+    for (uint64_t number = 1; number <= 3; number++) {
+        uint64_t kept = *given[number - 1];
+        *given[number - 1] = 97;
+        words(&record)[number - 1] = 97;
+        for (int kind = 0; kind < KINDS; kind++)
+            demand(call(kind) == HZ_REFUSED && words(&answer)[0] == number, "a wrong number is not refused");
+        *given[number - 1] = kept;
+        words(&record)[number - 1] = kept;
+    }
+    size_t wrong[] = {0, 3, 5, 7, (size_t)1 << 32, ((size_t)1 << 61) + 4, ((size_t)1 << 61) + 6, SIZE_MAX};
+    for (size_t i = 0; i < sizeof wrong / sizeof wrong[0]; i++)
+        for (int kind = 0; kind < KINDS; kind++) {
+            claim(&answer, wrong[i], 0);
+            demand(call(kind) == HZ_BAD_WORDS, "wrong words of answer are not told");
+            claim(&answer, HZ_ANSWER_WORDS, HZ_ANSWER_WORDS);
+            if (kinds[kind].lent[0] != &record)
+                continue;
+            claim(&record, wrong[i], 0);
+            demand(call(kind) == HZ_BAD_WORDS, "wrong words of record are not told");
+            claim(&record, HZ_RECORD_WORDS, HZ_RECORD_WORDS);
+        }
+    for (int i = 0; i < 5; i++)
+        all[i]->more = 0;
+}
+
+static const uint64_t sizes_of_lengths[] = {1, 2, 5, 17};
+#define ALL_LENGTHS (2 * 3 * (sizeof sizes_of_lengths / sizeof sizes_of_lengths[0]))
+static void case_of_lengths(uint64_t i)
+{
+    field = i % 2 == 0 ? 16 : 256;
+    shares = 2 + i / 2 % 3;
+    size = sizes_of_lengths[i / 6];
+    for (size_t which = 0; which < LENGTHS; which++)
+        for (uint64_t step = HZ_MIX; step <= HZ_OPEN; step++) {
+            bool pair = step == HZ_MIX || step == HZ_CLEAR;
+            if (lengths[which].kind == STEP ? pair && size == 1 : step != HZ_CHECK)
+                continue;
+            one_wrong_length(which, step);
+            all_wrong_from(which, step);
+        }
+    nothing_there();
 }
 
 /* Large systems, by steps and whole. */
@@ -910,7 +1093,8 @@ static const struct {
     {256, 3, 96, RANDOM},     {256, 4, 96, RANDOM},     {16, 3, 64, RANDOM},    {16, 4, 48, FITTING_B},
     {256, 2, 57, RANDOM},     {256, 4, 33, LAST_COLUMN},
 };
-#define CASES (ALL_SIZES + ALL_REFUSED_SHARES + RANDOM_CASES + sizeof large / sizeof large[0])
+#define CASES                                                                                                           \
+    (ALL_SMALL + ALL_LENGTHS + ALL_SIZES + ALL_REFUSED_SHARES + RANDOM_CASES + sizeof large / sizeof large[0])
 
 static void case_large(uint64_t i)
 {
@@ -926,6 +1110,16 @@ static void run_case(void)
     state = seed * 0x2545f4914f6cdd1du ^ case_number * 0xd6e8feb86659fd93u;
     calls_in_case = 0;
     uint64_t i = case_number;
+    if (i < ALL_SMALL) {
+        case_of_places(i);
+        return;
+    }
+    i -= ALL_SMALL;
+    if (i < ALL_LENGTHS) {
+        case_of_lengths(i);
+        return;
+    }
+    i -= ALL_LENGTHS;
     if (i < ALL_SIZES) {
         case_of_sizes(i);
         return;

@@ -415,6 +415,23 @@ uint64_t model_start(uint64_t field, uint64_t n, uint64_t m,
     return say(HZ_FRESH, answer, 0, 0, 0, 0);
 }
 
+uint64_t model_wanted(const uint64_t *record, size_t record_len,
+                      uint64_t *answer, size_t answer_len)
+{
+    if (record_len != HZ_RECORD_WORDS || answer_len != HZ_ANSWER_WORDS)
+        return HZ_BAD_WORDS;
+    uint64_t field = record[HZ_FIELD], n = record[HZ_SHARES], m = record[HZ_SIZE];
+    uint64_t step = record[HZ_STEP], j = record[HZ_J], k = record[HZ_K];
+    uint64_t detail, bad = bad_number(field, n, m, &detail);
+    if (bad)
+        return refuse(answer, bad, detail);
+    if (!place_exists(m, step, j, k))
+        return refuse(answer, 10, 0);
+    if (step == HZ_AT_STOPPED || step == HZ_AT_DONE)
+        return refuse(answer, 11, 0);
+    return say(HZ_WANTED, answer, model_mask_draws(field, n, m, step, j), model_nonzero_draws(n, step), 0, 0);
+}
+
 uint64_t model_step(uint64_t *record, size_t record_len,
                     uint8_t *table, size_t table_len,
                     uint8_t *solution, size_t solution_len,

@@ -1,6 +1,7 @@
 /* An independent C implementation of the paper 01 for the calls of
- * hostozaro.h: each model_X answers as hz_X must. Written from the paper alone,
- * for clarity, and used only to compare. */
+ * hostozaro.h: each model_X answers as hz_X must. Written from the paper alone
+ * (model_wanted, which the paper has not, from hostozaro.h), for clarity, and
+ * used only to compare. */
 #ifndef MODEL_H
 #define MODEL_H
 
@@ -10,6 +11,9 @@
 uint64_t model_start(uint64_t field, uint64_t shares, uint64_t size,
                      uint64_t *record, size_t record_len,
                      uint64_t *answer, size_t answer_len);
+
+uint64_t model_wanted(const uint64_t *record, size_t record_len,
+                      uint64_t *answer, size_t answer_len);
 
 uint64_t model_step(uint64_t *record, size_t record_len,
                     uint8_t *table, size_t table_len,
