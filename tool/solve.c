@@ -141,7 +141,7 @@ static _Noreturn void bad(uint64_t at_line, uint64_t at_column, const char *what
     exit(BAD_INPUT);
 }
 
-#define ROWS "; with %" PRIu64 " numbers to a row, that of b among them, the number of rows is %" PRIu64
+#define ROWS "; row 1 has %" PRIu64 " numbers, that of b among them, so the number of rows is %" PRIu64
 
 /* The element that the word stands for. */
 static uint8_t element(size_t length)
