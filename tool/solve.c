@@ -202,6 +202,10 @@ static void read_system(void)
         if (c == '#')
             while (c != '\n' && c != EOF)
                 c = getchar();
+        if (c == EOF && ferror(stdin)) {
+            fprintf(stderr, "solve: %s can't be read: %s\n", input_name, strerror(errno));
+            exit(BAD_INPUT);
+        }
         if (c != EOF && !isspace(c)) {
             if (length < sizeof secret.word - 1) {
                 secret.word[length] = (char)c;
@@ -220,10 +224,6 @@ static void read_system(void)
         if (c == '\n')
             line++;
     } while (c != EOF);
-    if (ferror(stdin)) {
-        fprintf(stderr, "solve: %s can't be read: %s\n", input_name, strerror(errno));
-        exit(BAD_INPUT);
-    }
     if (row == 1) {
         fprintf(stderr, "solve: %s has no rows; m rows of m+1 numbers are wanted\n", input_name);
         exit(BAD_INPUT);
