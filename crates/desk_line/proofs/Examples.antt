@@ -7,9 +7,10 @@ use Prim.Native.String.{String}
 use Rattle.sharing.specs.Rules.{folds}
 use Rattle.table.specs.Costs.{flagCost, mixCost, checkCost, scaleCost, scaleNonzero, clearCost, openCost}
 use Rattle.course.specs.StepList.{each, column, columns, openings, stepList, maskCost, nonzeroCost, sumOver, sums}
-use Rattle.solver.specs.Told.{_or_}
-use Rattle.solver.specs.Refusals.{outside, no1, no2, no3, sizes}
-use Rattle.solver.specs.Calls.{call, countsCall}
+use Rattle.verdict.specs.Told.{_or_}
+use Rattle.verdict.specs.Refusals.{outside, no1, no2, no3, numbers}
+use Rattle.verdict.specs.Calls.{call}
+use Rattle.solver.specs.Calls.{countsCall}
 use Rattle.desk_line.specs.Text.{ascii, spelled, decimal}
 use Rattle.desk_line.specs.Line.{refusedLine, countsLine, deskLine}
 
@@ -47,5 +48,5 @@ rows =
     ∷ []
 
 pub examples : map (λ (r : Row). deskLine (r .input)) rows ≡ map (λ (r : Row). ascii (r .line)) rows
-unfolding rows ascii spelled decimal refusedLine countsLine deskLine call countsCall outside no1 no2 no3 sizes _or_ folds flagCost mixCost checkCost scaleCost scaleNonzero clearCost openCost each column columns openings stepList maskCost nonzeroCost sumOver sums
+unfolding rows ascii spelled decimal refusedLine countsLine deskLine call countsCall outside no1 no2 no3 numbers _or_ folds flagCost mixCost checkCost scaleCost scaleNonzero clearCost openCost each column columns openings stepList maskCost nonzeroCost sumOver sums
 examples = refl

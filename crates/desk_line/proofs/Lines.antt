@@ -7,7 +7,8 @@ use borrow.Author.Tests.{eq-eqb, ne-eqb}
 use lib.ListN.{length, getD}
 use Rattle.course.specs.declared.Counts.{Counts}
 use Rattle.solver.specs.declared.Counting.{Counting}
-use Rattle.solver.specs.Calls.{Outcome, Nothing, after, order, countSays, countsCall}
+use Rattle.verdict.specs.Calls.{Outcome, Nothing, after}
+use Rattle.solver.specs.Calls.{order, countSays, countsCall}
 use Rattle.desk_line.specs.Line.{refusedLine, lineOf, deskLine}
 
 pub not-four : (input : List ℕ) → (length input ≡ 4 → ⊥) → deskLine input ≡ refusedLine 13

@@ -7,7 +7,8 @@ use lib.Dec.{eqb}
 use lib.ListN.{length, getD, take, drop}
 use Rattle.field.specs.Field.{pick}
 use Rattle.course.specs.declared.Counts.{Counts}
-use Rattle.solver.specs.Calls.{Says, refuses, gives, order, countsCall}
+use Rattle.verdict.specs.Calls.{Says, refuses, gives}
+use Rattle.solver.specs.Calls.{order, countsCall}
 use Rattle.desk_line.specs.Text.{ascii, decimal}
 
 -- "refused ", the number and a newline

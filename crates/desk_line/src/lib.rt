@@ -5,12 +5,12 @@ ghost use mathlib.Core.Path.{_≡_};
 ghost use Prim.Native.Nat.{_+_, _≤_};
 ghost use lib.ListN.{length};
 ghost use Rattle.io.specs.Counts.{Counts as Counts·within};
-ghost use Rattle.solver.specs.Refusals.{paper};
+ghost use Rattle.verdict.specs.Refusals.{paper};
 ghost use Rattle.desk_line.specs.Text.{decimal};
 ghost use Rattle.desk_line.specs.Line.{refusedLine, countsLine, deskLine, Wrote, Made};
 use course::Counts;
 use solver::Counting;
-use solver::Refusal;
+use verdict::Refusal;
 
 // Puts a text at a place of out, and answers the place behind it.
 fn put(text: &[u8], out: &mut [u8], at: usize) -> usize
@@ -38,24 +38,11 @@ fn number(n: usize, end: u8, out: &mut [u8], at: usize) -> usize
     p + 1
 }
 
-// 01's number of a refusal. The counts give 1, 2 and 3 alone.
+// 01's number of a refusal.
 fn number_of(r: Refusal) -> usize
     ensures { λ k. ⌜ k ≡ paper r .number ⌝ }
 {
-    match r {
-        Refusal::Field(_) => 1,
-        Refusal::Shares(_) => 2,
-        Refusal::Size(_) => 3,
-        Refusal::Input(_) => 4,
-        Refusal::Target(_) => 5,
-        Refusal::Entry(_) => 6,
-        Refusal::MaskTape(_) => 7,
-        Refusal::NonzeroTape(_) => 8,
-        Refusal::ZeroDraw(_) => 9,
-        Refusal::OffList => 10,
-        Refusal::Ended => 11,
-        Refusal::ZeroPivot(_) => 12,
-    }
+    r.report().number as usize
 }
 
 // The line of a refusal.

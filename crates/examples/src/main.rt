@@ -7,8 +7,8 @@ use show::SOLVED;
 use show::STOPPED;
 use show::Told;
 use solver::Filling;
-use solver::Refusal;
 use solver::Solving;
+use verdict::Refusal;
 
 // How many examples ran, and how many of them differed.
 struct Tally {

@@ -7,8 +7,9 @@ use Prim.Native.Nat.{ℕ}
 use borrow.Author.Tests.{eq-eqb, ne-eqb, not-true, not-false}
 use Rattle.course.specs.declared.Progress.{Progress}
 use Rattle.walk.specs.Act.{Held}
-use Rattle.solver.specs.Told.{Line}
-use Rattle.solver.specs.Calls.{Says, refuses, gives, Outcome, after, Nothing, Stride, Lent, lent}
+use Rattle.verdict.specs.Told.{Line}
+use Rattle.verdict.specs.Calls.{Says, refuses, gives, Outcome, after, Nothing}
+use Rattle.solver.specs.Calls.{Stride, Lent, lent}
 use Rattle.host.specs.declared.replies.Reply.{Reply}
 use Rattle.host.specs.Words.{wordsOf, kept}
 use Rattle.host.specs.Replies.{refusalReply, reply, fourOf, said, freshReply, strideReply}

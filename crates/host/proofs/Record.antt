@@ -11,7 +11,7 @@ use Rattle.course.specs.declared.Place.the-variants.{At, Stopped, Done}
 use Rattle.course.specs.declared.Progress.{Progress}
 use Rattle.course.specs.declared.Step.the-variants.{Mix, Check, Scale, Clear, Open}
 use Rattle.course.specs.StepList.{inList}
-use Rattle.solver.specs.Told.{refused, line}
+use Rattle.verdict.specs.Told.{refused, line}
 use Rattle.solver.specs.Refusals.{placed, no10}
 use Rattle.host.specs.Words.{nowhere, without, placeOf, spotOf, stepSpot, progressOf, wordsOf, kept}
 

@@ -9,7 +9,8 @@ use Rattle.field.specs.Field.{pick}
 use Rattle.course.specs.declared.Order.{Order}
 use Rattle.course.specs.declared.Progress.{Progress}
 use Rattle.walk.specs.Act.{Held}
-use Rattle.solver.specs.Calls.{Says, refuses, gives, Outcome, Nothing, Stride, Lent, startCall, countsCall, dealCall, gatherCall, solveCall, stepCall, wantedCall}
+use Rattle.verdict.specs.Calls.{Says, refuses, gives, Outcome, Nothing}
+use Rattle.solver.specs.Calls.{Stride, Lent, startCall, countsCall, dealCall, gatherCall, solveCall, stepCall, wantedCall}
 use Rattle.host.specs.declared.replies.Reply.{Reply}
 use Rattle.host.specs.Words.{progressOf, wordsOf, kept}
 use Rattle.host.specs.Replies.{fourOf, said, freshReply, countsReply, fullReply, endingReply, strideReply, wantedReply}

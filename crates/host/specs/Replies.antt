@@ -2,13 +2,14 @@
 -- Assumes nothing.
 use mathlib.Core.List.{List, [], _∷_}
 use Prim.Native.Nat.{ℕ}
-use lib.ListN.{getD}
 use Rattle.course.specs.declared.Counts.{Counts}
 use Rattle.course.specs.declared.Progress.{Progress}
 use Rattle.walk.specs.declared.Ending.{Ending}
 use Rattle.walk.specs.declared.Ending.the-variants.{Solved, Stopped}
-use Rattle.solver.specs.Told.{Line}
-use Rattle.solver.specs.Calls.{Says, refuses, gives, Full, filled, Stride, moved, opening, stopped, done, Draws}
+use Rattle.verdict.specs.Told.{Line}
+use Rattle.verdict.specs.Refusals.{reportOf}
+use Rattle.verdict.specs.Calls.{Says, refuses, gives}
+use Rattle.solver.specs.Calls.{Full, filled, Stride, moved, opening, stopped, done, Draws}
 use Rattle.host.specs.declared.replies.Reply.{Reply}
 
 abbrev pub reply : ℕ → ℕ → ℕ → ℕ → ℕ → Reply
@@ -20,7 +21,7 @@ fourOf r = r .a ∷ r .b ∷ r .c ∷ r .d ∷ []
 
 -- 0: the refusal's number, and its detail
 unfoldable pub refusalReply : Line → Reply
-refusalReply l = reply 0 (l .number) (getD (l .detail) 0 0) 0 0
+refusalReply l = let r = reportOf l in reply 0 (r .number) (r .a) (r .b) (r .c)
 
 -- Step
 unfoldable pub strideReply : Stride → Reply

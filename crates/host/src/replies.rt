@@ -1,15 +1,15 @@
 // What a call tells: a code and four words.
 ghost use mathlib.Core.Path.{_≡_};
 ghost use lib.ListN.{length};
-ghost use Rattle.solver.specs.Refusals.{paper};
+ghost use Rattle.verdict.specs.Refusals.{paper};
 ghost use Rattle.solver.specs.Calls.{countSays, fillSays, solveSays, stepSays, wantSays};
 ghost use Rattle.host.specs.Replies.{reply, refusalReply, said, countsReply, fullReply, endingReply, strideReply, wantedReply, fourOf};
 use solver::Counting;
 use solver::Filling;
-use solver::Refusal;
 use solver::Solving;
 use solver::Stepping;
 use solver::Wanting;
+use verdict::Refusal;
 
 pub struct Reply {
     pub code: u64,
@@ -36,19 +36,13 @@ pub fn short(code: u64, a: u64, b: u64) -> Reply
 pub fn refusal(x: Refusal) -> Reply
     ensures { λ r. ⌜ r ≡ refusalReply (paper x) ⌝ }
 {
-    match x {
-        Refusal::Field(q) => short(0, 1, q),
-        Refusal::Shares(n) => short(0, 2, n),
-        Refusal::Size(m) => short(0, 3, m),
-        Refusal::Input(wanted) => short(0, 4, wanted as u64),
-        Refusal::Target(wanted) => short(0, 5, wanted as u64),
-        Refusal::Entry(place) => short(0, 6, place as u64),
-        Refusal::MaskTape(wanted) => short(0, 7, wanted as u64),
-        Refusal::NonzeroTape(wanted) => short(0, 8, wanted as u64),
-        Refusal::ZeroDraw(place) => short(0, 9, place as u64),
-        Refusal::OffList => short(0, 10, 0),
-        Refusal::Ended => short(0, 11, 0),
-        Refusal::ZeroPivot(j) => short(0, 12, j),
+    let r = x.report();
+    Reply {
+        code: 0,
+        a: r.number,
+        b: r.a,
+        c: r.b,
+        d: r.c,
     }
 }
 

@@ -24,7 +24,8 @@ use Rattle.course.proofs.Progress as P
 use Rattle.course.proofs.Progress.Laws as P′
 use Rattle.walk.specs.Act.{held}
 use Rattle.solver.specs.declared.Stepping.{Stepping}
-use Rattle.solver.specs.Calls.{after, stepSays, stepCall, lent}
+use Rattle.verdict.specs.Calls.{after}
+use Rattle.solver.specs.Calls.{stepSays, stepCall, lent}
 use Rattle.solver.proofs.Stepping as N
 use Rattle.solver.proofs.Stepping.Laws as N′
 

@@ -1,7 +1,8 @@
 // The step call on a progress record lent by `&mut`, moved on where it stands. Stands on solver; a host that keeps one record calls `step`.
 ghost use mathlib.Core.Path.{_≡_};
 ghost use Rattle.walk.specs.Act.{held};
-ghost use Rattle.solver.specs.Calls.{after, stepSays, stepCall, lent};
+ghost use Rattle.verdict.specs.Calls.{after};
+ghost use Rattle.solver.specs.Calls.{stepSays, stepCall, lent};
 use course::Progress;
 use solver::Stepped;
 use solver::Stepping;

@@ -5,10 +5,10 @@
 use course::Place;
 use course::Progress;
 use course::Step;
-use solver::Refusal;
 use solver::Starting;
 use solver::Stepped;
 use solver::Stepping;
+use verdict::Refusal;
 
 // A host's own: the record, the table and the solution.
 struct Host {
@@ -44,26 +44,10 @@ fn case(number: u64, first: u64, second: u64) -> Shown {
     }
 }
 
-fn wide(n: usize) -> u64 {
-    n as u64
-}
-
 // 01's number of a refusal, and its detail.
 fn show_refusal(r: Refusal) -> Shown {
-    match r {
-        Refusal::Field(q) => case(1, q, 0),
-        Refusal::Shares(n) => case(2, n, 0),
-        Refusal::Size(m) => case(3, m, 0),
-        Refusal::Input(k) => case(4, wide(k), 0),
-        Refusal::Target(k) => case(5, wide(k), 0),
-        Refusal::Entry(k) => case(6, wide(k), 0),
-        Refusal::MaskTape(k) => case(7, wide(k), 0),
-        Refusal::NonzeroTape(k) => case(8, wide(k), 0),
-        Refusal::ZeroDraw(k) => case(9, wide(k), 0),
-        Refusal::OffList => case(10, 0, 0),
-        Refusal::Ended => case(11, 0, 0),
-        Refusal::ZeroPivot(j) => case(12, j, 0),
-    }
+    let l = r.report();
+    case(l.number, l.a, l.b)
 }
 
 fn value(x: u8) -> u64 {

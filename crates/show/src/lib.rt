@@ -7,10 +7,10 @@ use course::Step;
 use libc::STDOUT_FILENO;
 use solver::Counting;
 use solver::Filling;
-use solver::Refusal;
 use solver::Solving;
 use solver::Starting;
 use solver::Stepping;
+use verdict::Refusal;
 
 // An answer, or the place of a record, as a word and up to three numbers. Unused numbers are 0, so that two can be compared.
 pub struct Told {
@@ -65,20 +65,8 @@ fn wide(x: u8) -> u64 {
 
 // A refusal's number and detail, by 01's table.
 pub fn of_refusal(r: Refusal) -> Told {
-    match r {
-        Refusal::Field(f) => tell(REFUSED, 1, f, 0),
-        Refusal::Shares(n) => tell(REFUSED, 2, n, 0),
-        Refusal::Size(m) => tell(REFUSED, 3, m, 0),
-        Refusal::Input(k) => tell(REFUSED, 4, k as u64, 0),
-        Refusal::Target(k) => tell(REFUSED, 5, k as u64, 0),
-        Refusal::Entry(i) => tell(REFUSED, 6, i as u64, 0),
-        Refusal::MaskTape(k) => tell(REFUSED, 7, k as u64, 0),
-        Refusal::NonzeroTape(k) => tell(REFUSED, 8, k as u64, 0),
-        Refusal::ZeroDraw(i) => tell(REFUSED, 9, i as u64, 0),
-        Refusal::OffList => tell(REFUSED, 10, 0, 0),
-        Refusal::Ended => tell(REFUSED, 11, 0, 0),
-        Refusal::ZeroPivot(j) => tell(REFUSED, 12, j, 0),
-    }
+    let l = r.report();
+    tell(REFUSED, l.number, l.a, l.b)
 }
 
 fn of_counts(c: Counts) -> Told {

@@ -1,6 +1,6 @@
--- A call at work: what it says and leaves where its checks refuse, and where they pass.
+-- The work of Solve and of Step, in the words of their calls.
 -- Assumes nothing.
-use mathlib.Core.Path.{_≡_, refl, sym, ap, _∙_}
+use mathlib.Core.Path.{_≡_, refl, ap, _∙_}
 use mathlib.Core.List.{List}
 use Prim.Native.Nat.{ℕ}
 use Rattle.course.specs.declared.Step.{Step}
@@ -11,29 +11,8 @@ use Rattle.course.specs.Next.{nextOf}
 use Rattle.walk.specs.declared.Ending.{Ending}
 use Rattle.walk.specs.Act.{Held, held, opened, acted}
 use Rattle.walk.specs.Walk.{Solution, leaves}
-use Rattle.solver.specs.declared.Refusal.{Refusal}
-use Rattle.solver.specs.declared.checks.Verdict.{Verdict}
-use Rattle.solver.specs.declared.checks.Verdict.the-variants.{Pass, Refuse}
-use Rattle.solver.specs.Told.{Told, Line, passed, refused}
-use Rattle.solver.specs.Refusals.{paper}
-use Rattle.solver.specs.Verdicts.{told}
-use Rattle.solver.specs.Calls.{Says, refuses, gives, Outcome, after, call, solveDoes, Stride, moved, tells, lent, orderOf, stepDoes}
-
-module _ {A L : Type 0} where
-  pub call-goes : (x : Told) (found : L) (does : Outcome A L) → x ≡ passed → call x found does ≡ does
-  unfolding call
-  call-goes x found does e = rw e
-
-  pub call-stops : (x : Told) (found : L) (does : Outcome A L) (l : Line) → x ≡ refused l → call x found does ≡ after (refuses l) found
-  unfolding call
-  call-stops x found does l e = rw e
-
-  pub refuses-call : (v : Verdict) (r : Refusal) (x : Told) (found : L) (does : Outcome A L) → told v ≡ x → v ≡ Refuse r
-      → after (refuses (paper r)) found ≡ call x found does
-  refuses-call v r x found does e h = sym (call-stops x found does (paper r) (sym e ∙ ap told h))
-
-  pub passes-call : (v : Verdict) (x : Told) (found : L) (does : Outcome A L) → told v ≡ x → v ≡ Pass → does ≡ call x found does
-  passes-call v x found does e h = sym (call-goes x found does (sym e ∙ ap told h))
+use Rattle.verdict.specs.Calls.{Says, gives, after}
+use Rattle.solver.specs.Calls.{solveDoes, Stride, moved, tells, lent, orderOf, stepDoes}
 
 -- the ending of a solve, and what it leaves
 pub solve-done : (a : Says Ending) (e : Ending) (t x : List ℕ) (s : Solution) → a ≡ gives e → leaves e t x ≡ s → after a (held t x) ≡ solveDoes s

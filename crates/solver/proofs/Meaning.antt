@@ -14,16 +14,18 @@ use Rattle.walk.specs.Walk.{solved}
 use Rattle.walk.proofs.Counted.{solved-counters}
 use Rattle.meaning.proofs.Walked.{NoZero}
 use Rattle.meaning.proofs.Meant.{Lent, meant}
-use Rattle.solver.specs.Told.{Told, passed, refused}
+use Rattle.verdict.specs.Told.{Told, passed, refused}
 use Rattle.solver.specs.Refusals.{solveOrder}
-use Rattle.solver.specs.Calls.{Says, Outcome, after, call, solveDoes, solveCall, Tells, Taken}
-use Rattle.solver.proofs.Ready.{Solvable, solvable, no-zero}
+use Rattle.verdict.specs.Calls.{Says, Outcome, after, call}
+use Rattle.solver.specs.Calls.{solveDoes, solveCall, Tells, Taken}
+use Rattle.verdict.proofs.Passes.{nine-says}
+use Rattle.solver.proofs.Ready.{Solvable, solvable}
 
 module _ (o : Order) (t x mask nonzero : List ℕ) where
   -- the nonzero draws of a full solve are not 0
   drawn : Solvable o t (length x) (length mask) nonzero → NoZero o nonzero
   drawn d k h e =
-      no-zero (o .field) (take (fullNonzero o) nonzero) (d .nonzeros) k (rw (length-take-le (fullNonzero o) nonzero (d .others)) h)
+      nine-says (o .field) (take (fullNonzero o) nonzero) (d .nonzeros) k (rw (length-take-le (fullNonzero o) nonzero (d .others)) h)
       (ap (draw (fieldOf (o .field))) (getD-take (fullNonzero o) nonzero k 0 h) ∙ e)
 
   lending : Solvable o t (length x) (length mask) nonzero → Lent o nonzero t x

@@ -1,17 +1,14 @@
 -- Only one outcome meets a call's promise: of two that do, the answers are one, and so is what they leave. Each answer is read back from what
 -- 01 says of it.
 -- Assumes nothing.
-use mathlib.Core.List.{List, [], _∷_}
-use mathlib.Core.Path.{_≡_, refl, sym, ap, _∙_}
+use mathlib.Core.List.{List}
+use mathlib.Core.Path.{_≡_, refl, ap}
 use Prim.Native.Nat.{ℕ}
-use lib.ListN.{getD}
 use Rattle.course.specs.declared.Counts.{Counts}
 use Rattle.course.specs.declared.Progress.{Progress}
 use Rattle.walk.specs.declared.Ending.{Ending}
 use Rattle.walk.specs.declared.Ending.the-variants as E
 use Rattle.walk.specs.Act.{Held}
-use Rattle.solver.specs.declared.Refusal.{Refusal}
-use Rattle.solver.specs.declared.Refusal.the-variants.{Field, Shares, Size, Input, Target, Entry, MaskTape, NonzeroTape, ZeroDraw, OffList, Ended, ZeroPivot}
 use Rattle.solver.specs.declared.Starting.{Starting}
 use Rattle.solver.specs.declared.Starting.the-variants as Start
 use Rattle.solver.specs.declared.Counting.{Counting}
@@ -24,40 +21,9 @@ use Rattle.solver.specs.declared.Solving.{Solving}
 use Rattle.solver.specs.declared.Solving.the-variants as Solve
 use Rattle.solver.specs.declared.Wanting.{Wanting}
 use Rattle.solver.specs.declared.Wanting.the-variants as Want
-use Rattle.solver.specs.Told.{Line}
-use Rattle.solver.specs.Refusals.{paper}
-use Rattle.solver.specs.Calls.{Says, refuses, gives, Outcome, after, Nothing, startSays, countSays, Full, filled, fillSays, Stride, moved, opening, stopped, done, stepSays, Lent, solveSays, Draws, wantSays}
-
--- the case of a number of 01's table
-back : Line → Refusal
-back l =
-    let d : ℕ = getD (l .detail) 0 0 in
-    getD (Ended ∷ Field d ∷ Shares d ∷ Size d ∷ Input d ∷ Target d ∷ Entry d ∷ MaskTape d ∷ NonzeroTape d ∷ ZeroDraw d ∷ OffList ∷ Ended ∷ ZeroPivot d ∷ []) (l .number) Ended
-
-back-paper : (r : Refusal) → back (paper r) ≡ r
-unfolding back
-back-paper (Field q) = refl
-back-paper (Shares n) = refl
-back-paper (Size m) = refl
-back-paper (Input k) = refl
-back-paper (Target k) = refl
-back-paper (Entry i) = refl
-back-paper (MaskTape k) = refl
-back-paper (NonzeroTape k) = refl
-back-paper (ZeroDraw i) = refl
-back-paper OffList = refl
-back-paper Ended = refl
-back-paper (ZeroPivot j) = refl
-
--- one outcome at most: whatever the call is to come to, two answers that say it are one, and so is what is left of what was lent
-abbrev pub Once : {E A : Type 0} → (E → Says A) → Type 0 → Type 0
-Once {E} {A} says L = (o : Outcome A L) (a b : E) (l k : L) → after (says a) l ≡ o → after (says b) k ≡ o → (a ≡ b) × (l ≡ k)
-
--- where the answer can be read back
-pub only : {E A L : Type 0} (says : E → Says A) (back : Says A → E) → ((e : E) → back (says e) ≡ e) → Once says L
-only {A = A} {L = L} says back so o a b l k e d =
-    let w : after (says a) l ≡ after (says b) k = e ∙ sym d in
-    (sym (so a) ∙ ap (λ (u : Outcome A L). back (u .says)) w ∙ so b, ap (λ (u : Outcome A L). u .left) w)
+use Rattle.verdict.specs.Calls.{Says, refuses, gives, Nothing}
+use Rattle.verdict.proofs.Once.{back, back-paper, Once, only}
+use Rattle.solver.specs.Calls.{startSays, countSays, Full, filled, fillSays, Stride, moved, opening, stopped, done, stepSays, Lent, solveSays, Draws, wantSays}
 
 startBack : Says Progress → Starting
 startBack (refuses l) = Start.Refused (back l)

@@ -1,18 +1,17 @@
 -- What a pass means: the facts that the work of each call asks for, from the checks of its order.
 -- Assumes nothing.
-use mathlib.Core.Bool.{Bool, true, false, not, _||_, _&&_, false≢true}
+use mathlib.Core.Bool.{true, false}
 use mathlib.Core.List.{List}
-use mathlib.Core.Logic.{_⊎_, inl, inr, ⊎-elim}
 use mathlib.Core.Path.{_≡_, refl, sym, _∙_}
-use Prim.Native.Nat.{ℕ, _+_, _-_, _*_, _<_, _≤_}
+use Prim.Native.Nat.{ℕ, _+_, _-_, _*_, _≤_}
 use native.Mathlib.Decide.{ℕ-discrete}
 use native.Mathlib.Nat.{mul-le-mul}
 use native.Mathlib.Omega.{arith}
-use lib.Dec.{eqb, ltb}
+use lib.Dec.{eqb}
 use lib.ListN.{length, take}
-use borrow.Author.Tests.{ltb-false, eqb-true, eqb-false, not-false, eq-eqb, ne-eqb}
+use borrow.Author.Tests.{not-false, eq-eqb, ne-eqb}
 use Rattle.field.specs.Field.{fieldOf}
-use Rattle.sharing.specs.Rules.{drawAt, blindedValue}
+use Rattle.sharing.specs.Rules.{blindedValue}
 use Rattle.table.specs.Layout.{Place as Cell, tableBytes, entry}
 use Rattle.table.specs.Costs.{scaleNonzero}
 use Rattle.table.specs.Values.{value}
@@ -25,66 +24,23 @@ use Rattle.course.specs.declared.Order.{Order}
 use Rattle.course.specs.StepList.{Sizes, inList, maskCost, nonzeroCost, fullMask, fullNonzero}
 use Rattle.course.proofs.Within.{within}
 use Rattle.walk.proofs.Acted.{pivot}
-use Rattle.solver.specs.Told.{passed, refuse, _or_}
-use Rattle.solver.specs.Refusals.{outside, firstPlace, zeroDraw, placed, ended, entries, wholeTable, dealDraws, maskAt, nonzeroAt, zeroPivotOf, no1, no2, no3, no4, no5, no6, no7, no8, no7step, no8step, no9, no10, no11, no12, sizes, buffers, dealOrder, gatherOrder, tapes, solveOrder, standing, wantedOrder, placing, lending, stepOrder}
-use Rattle.solver.proofs.Told.{left, right, not-then}
-use Rattle.solver.proofs.Scan.{before-first}
-
-neither : (s t : Bool) → s || t ≡ false → (s ≡ false) × (t ≡ false)
-neither true t e = absurd (false≢true (sym e))
-neither false t e = (refl, e)
-
-inside : (low high x : ℕ) → outside low high x ≡ false → (low ≤ x) × (x ≤ high)
-unfolding outside
-inside low high x e =
-    let w = neither (ltb x low) (ltb high x) e in
-    (ltb-false x low (w .0), ltb-false high x (w .1))
-
-known : (s t : Bool) → not s && not t ≡ false → (s ≡ true) ⊎ (t ≡ true)
-known true t e = inl refl
-known false t e = inr (not-false t e)
-
-same : (wanted long k : ℕ) (d : List ℕ) → refuse k (not (eqb long wanted)) d ≡ passed → long ≡ wanted
-same wanted long k d e = eqb-true long wanted (not-false _ (not-then _ _ e))
-
-enough : (wanted long k : ℕ) (d : List ℕ) → refuse k (ltb long wanted) d ≡ passed → wanted ≤ long
-enough wanted long k d e = ltb-false long wanted (not-then _ _ e)
+use Rattle.verdict.specs.Told.{passed, _or_}
+use Rattle.verdict.specs.Refusals.{no1, no2, no3, no4, no5, no6, no7, no8, no7step, no8step, no9, numbers, buffers}
+use Rattle.solver.specs.Refusals.{placed, ended, entries, wholeTable, dealDraws, maskAt, nonzeroAt, zeroPivotOf, no10, no11, no12, sizes, dealOrder, gatherOrder, tapes, solveOrder, standing, wantedOrder, placing, lending, stepOrder}
+use Rattle.verdict.proofs.Told.{left, right, not-then}
+use Rattle.verdict.proofs.Passes.{one-says, two-says, three-says, same, enough, nine-says, Buffers, buffered}
 
 -- 1 to 3 passed
 pub sized : (o : Order) → sizes o ≡ passed → Sizes o
-unfolding sizes no1 no2 no3
+unfolding numbers
 sized o e =
     let a = no1 (o .field) in
     let b = no2 (o .shares) in
     let d = no3 (o .size) in
     let two : a or b ≡ passed = left (a or b) d e in
-    let n = inside 2 4 (o .shares) (not-then _ _ (right a b two)) in
-    let m = inside 1 96 (o .size) (not-then _ _ (right (a or b) d e)) in
-    record {
-      field = ⊎-elim (λ h. inl (eqb-true (o .field) 16 h)) (λ h. inr (eqb-true (o .field) 256 h)) (known _ _ (not-then _ _ (left a b two)));
-      two = n .0;
-      four = n .1;
-      some = m .0;
-      most = m .1;
-    }
-
--- 4 to 6 passed
-pub record Buffers (f wanted : ℕ) (input : List ℕ) (target long : ℕ) : Type 0 where
-  pub whole : length input ≡ wanted
-  pub room : long ≡ target
-  pub elements : no6 f input ≡ passed
-
-pub buffered : (f wanted : ℕ) (input : List ℕ) (target long : ℕ) → buffers f wanted input target long ≡ passed → Buffers f wanted input target long
-unfolding buffers no4 no5
-buffered f wanted input target long e =
-    let a = no4 wanted (length input) in
-    let b = no5 target long in
-    let two : a or b ≡ passed = left (a or b) (no6 f input) e in
-    record {
-      whole = same wanted (length input) 4 _ (left a b two);
-      room = same target long 5 _ (right a b two);
-      elements = right (a or b) (no6 f input) e;
-    }
+    let n = two-says (o .shares) (right a b two) in
+    let m = three-says (o .size) (right (a or b) d e) in
+    record { field = one-says (o .field) (left a b two); two = n .0; four = n .1; some = m .0; most = m .1 }
 
 -- the table is as long as its entries' sharings
 whole-entries : (o : Order) → wholeTable o ≡ entries (o .size) * o .shares
@@ -112,7 +68,7 @@ dealing o values target mask e =
     record {
       sizes = sized o (left (sizes o) _ e);
       lent = buffered _ _ _ _ _ (left a _ rest);
-      drawn = enough (dealDraws o) mask 7 _ (right a _ rest);
+      drawn = enough 7 _ (right a _ rest);
     }
 
 -- Gather's checks passed
@@ -146,8 +102,8 @@ solvable o t solution mask nonzero e =
     record {
       sizes = sized o (left (sizes o) _ e);
       lent = buffered _ _ _ _ _ (left a _ rest);
-      masks = enough (fullMask o) mask 7 _ (left b d two);
-      others = enough (fullNonzero o) (length nonzero) 8 _ (right b d two);
+      masks = enough 7 _ (left b d two);
+      others = enough 8 _ (right b d two);
       nonzeros = right (b or d) _ (right a _ rest);
     }
 
@@ -184,8 +140,8 @@ placing-says o place table solution e =
     let two : a or b ≡ passed = left (a or b) (standing (o .size) place) e in
     let s = standing-says (o .size) place (right (a or b) (standing (o .size) place) e) in
     record {
-      whole = same (wholeTable o) table 4 _ (left a b two);
-      room = same (o .size) solution 5 _ (right a b two);
+      whole = same 4 _ (left a b two);
+      room = same 5 _ (right a b two);
       listed = s .listed;
       going = s .going;
     }
@@ -207,8 +163,8 @@ lending-says o place t mask nonzero e =
     let three : a or b or d ≡ passed = left (a or b or d) f e in
     record {
       elements = left a b (left (a or b) d three);
-      masks = same (maskAt o place) mask 7 _ (right a b (left (a or b) d three));
-      others = same (nonzeroAt o place) (length nonzero) 8 _ (right (a or b) d three);
+      masks = same 7 _ (right a b (left (a or b) d three));
+      others = same 8 _ (right (a or b) d three);
       nonzeros = right (a or b or d) f e;
     }
 
@@ -235,13 +191,6 @@ pub at-step : (o : Order) (place : Place) (s : Step) → place ≡ At s → plac
 unfolding placed
 at-step o place s e h = rw e at h
 
--- 9 passed: no draw is 0
-pub no-zero : (f : ℕ) (nonzero : List ℕ) → no9 f nonzero ≡ passed → (k : ℕ) → k < length nonzero → drawAt (fieldOf f) nonzero k ≡ 0 → ⊥
-unfolding no9 zeroDraw
-no-zero f nonzero e k h =
-    let all : length nonzero ≤ firstPlace (zeroDraw f) nonzero = ltb-false _ _ (not-then _ _ e) in
-    eqb-false _ _ (before-first (zeroDraw f) nonzero k (omega arith))
-
 both-zero : (a b : ℕ) → (a ≡ 0 → b ≡ 0) → (b ≡ 0 → a ≡ 0) → eqb a 0 ≡ eqb b 0
 both-zero a b there back = elim (ℕ-discrete a 0) [
   | yes e ↦ eq-eqb a 0 e ∙ sym (eq-eqb b 0 (there e))
@@ -259,7 +208,7 @@ pub pivot-told : (o : Order) (j : ℕ) (t mask nonzero : List ℕ) → inList (o
 unfolding zeroPivotOf value nonzeroCost scaleNonzero
 pivot-told o j t mask nonzero listed whole long nines =
     both-zero _ _
-    (zero-pivot (o .field) (o .shares) (o .size) (o .size + 1) t whole (pivot-cell o j listed) nonzero mask (λ k h. no-zero (o .field) nonzero nines k (omega arith)))
+    (zero-pivot (o .field) (o .shares) (o .size) (o .size + 1) t whole (pivot-cell o j listed) nonzero mask (λ k h. nine-says (o .field) nonzero nines k (omega arith)))
     (pivot-zero (o .field) (o .shares) (o .size) (o .size + 1) t whole j j nonzero mask)
 
 -- ---- what the work of each call asks for

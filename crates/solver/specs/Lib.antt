@@ -1,5 +1,2 @@
-pub mod Told
 pub mod Refusals
 pub mod Calls
-pub mod Verdicts
-pub mod Scan

@@ -1,11 +1,11 @@
--- 01's table of refusals, a definition for each number, and the order of each call.
+-- 01's refusals 10 to 12, which are about a progress record, and the order of each call. 1 to 9 stand in crate verdict.
 -- Assumes nothing.
-use mathlib.Core.Bool.{Bool, true, false, not, _||_, _&&_}
+use mathlib.Core.Bool.{Bool, true, false, not}
 use mathlib.Core.List.{List, [], _∷_}
-use Prim.Native.Nat.{ℕ, suc, _+_, _-_, _*_}
-use lib.Dec.{eqb, ltb, leb}
+use Prim.Native.Nat.{ℕ, _+_, _-_, _*_}
+use lib.Dec.{eqb}
 use lib.ListN.{length, take}
-use Rattle.field.specs.Field.{draw, fieldOf}
+use Rattle.field.specs.Field.{fieldOf}
 use Rattle.sharing.specs.Rules.{sum}
 use Rattle.table.specs.Layout.{tableBytes, entry}
 use Rattle.course.specs.declared.Step.{Step}
@@ -14,52 +14,10 @@ use Rattle.course.specs.declared.Place.{Place}
 use Rattle.course.specs.declared.Place.the-variants.{At, Stopped, Done}
 use Rattle.course.specs.declared.Order.{Order}
 use Rattle.course.specs.StepList.{inList, maskCost, nonzeroCost, fullMask, fullNonzero}
-use Rattle.solver.specs.declared.Refusal.{Refusal}
-use Rattle.solver.specs.declared.Refusal.the-variants as R
-use Rattle.solver.specs.Told.{Told, Line, line, refuse, _or_}
-
--- the paper's number and detail of each case of the enum
-abbrev pub paper : Refusal → Line
-paper (R.Field q) = line 1 (q ∷ [])
-paper (R.Shares n) = line 2 (n ∷ [])
-paper (R.Size m) = line 3 (m ∷ [])
-paper (R.Input wanted) = line 4 (wanted ∷ [])
-paper (R.Target wanted) = line 5 (wanted ∷ [])
-paper (R.Entry place) = line 6 (place ∷ [])
-paper (R.MaskTape wanted) = line 7 (wanted ∷ [])
-paper (R.NonzeroTape wanted) = line 8 (wanted ∷ [])
-paper (R.ZeroDraw place) = line 9 (place ∷ [])
-paper R.OffList = line 10 (0 ∷ [])
-paper R.Ended = line 11 (0 ∷ [])
-paper (R.ZeroPivot j) = line 12 (j ∷ [])
+use Rattle.verdict.specs.Told.{Told, refuse, _or_}
+use Rattle.verdict.specs.Refusals.{outside, no4, no5, no6, no7, no8, no7step, no8step, no9, numbers, buffers}
 
 -- ---- what the table's words mean
-
-unfoldable pub outside : ℕ → ℕ → ℕ → Bool
-outside low high x = ltb x low || ltb high x
-
-abbrev pub differs : ℕ → ℕ → Bool
-differs a b = not (eqb a b)
-
-abbrev pub orNext : Bool → ℕ → ℕ
-orNext true i = 0
-orNext false i = suc i
-
--- the first place, from 0, whose byte meets the test; the length where there is none
-unfoldable pub firstPlace : (ℕ → Bool) → List ℕ → ℕ
-firstPlace test [] = 0
-firstPlace test (x ∷ xs) = orNext (test x) (firstPlace test xs)
-
-abbrev pub anyPlace : (ℕ → Bool) → List ℕ → Bool
-anyPlace test xs = ltb (firstPlace test xs) (length xs)
-
--- an entry that is no element of the field: 16 or more in F16
-unfoldable pub tooLarge : ℕ → ℕ → Bool
-tooLarge f x = leb (fieldOf f .q) x
-
--- a byte whose draw is 0
-unfoldable pub zeroDraw : ℕ → ℕ → Bool
-zeroDraw f x = eqb (draw (fieldOf f) x) 0
 
 -- a place of the step list, a stopping column in 1..m, or done
 unfoldable pub placed : ℕ → Place → Bool
@@ -122,49 +80,6 @@ columnAt Done = 0
 
 -- ---- the table: number, meaning, detail
 
--- field neither 16 nor 256: the number
-unfoldable pub no1 : ℕ → Told
-no1 field = refuse 1 (differs field 16 && differs field 256) (field ∷ [])
-
--- shares below 2 or above 4 (0 is a blank box): the number
-unfoldable pub no2 : ℕ → Told
-no2 shares = refuse 2 (outside 2 4 shares) (shares ∷ [])
-
--- size below 1 or above 96: the number
-unfoldable pub no3 : ℕ → Told
-no3 size = refuse 3 (outside 1 96 size) (size ∷ [])
-
--- input table or value list of wrong length: length wanted
-unfoldable pub no4 : ℕ → ℕ → Told
-no4 wanted length = refuse 4 (differs length wanted) (wanted ∷ [])
-
--- solution or target of wrong length: length wanted
-unfoldable pub no5 : ℕ → ℕ → Told
-no5 wanted length = refuse 5 (differs length wanted) (wanted ∷ [])
-
--- entry 16 or more in F16: first such place, from 0
-unfoldable pub no6 : ℕ → List ℕ → Told
-no6 field input = refuse 6 (anyPlace (tooLarge field) input) (firstPlace (tooLarge field) input ∷ [])
-
--- mask tape too short: length wanted
-unfoldable pub no7 : ℕ → ℕ → Told
-no7 wanted length = refuse 7 (ltb length wanted) (wanted ∷ [])
-
--- nonzero tape, likewise
-unfoldable pub no8 : ℕ → ℕ → Told
-no8 wanted length = refuse 8 (ltb length wanted) (wanted ∷ [])
-
--- step: not the exact length
-unfoldable pub no7step : ℕ → ℕ → Told
-no7step wanted length = refuse 7 (differs length wanted) (wanted ∷ [])
-
-unfoldable pub no8step : ℕ → ℕ → Told
-no8step wanted length = refuse 8 (differs length wanted) (wanted ∷ [])
-
--- one of the nonzero draws is 0: first such place, from 0
-unfoldable pub no9 : ℕ → List ℕ → Told
-no9 field draws = refuse 9 (anyPlace (zeroDraw field) draws) (firstPlace (zeroDraw field) draws ∷ [])
-
 -- place not in the step list for these sizes, or a stopping column outside 1..m: 0
 unfoldable pub no10 : ℕ → Place → Told
 no10 size place = refuse 10 (not (placed size place)) (0 ∷ [])
@@ -180,12 +95,8 @@ no12 o place t = refuse 12 (zeroPivot o place t) (columnAt place ∷ [])
 -- ---- the orders. Parentheses mark stages: what stands in one is worked out only once the stage before has passed
 
 -- 1 to 3: Start, and the counts of an order
-unfoldable pub sizes : Order → Told
-sizes o = no1 (o .field) or no2 (o .shares) or no3 (o .size)
-
--- 4 to 6, of what is read and of what is written
-unfoldable pub buffers : ℕ → ℕ → List ℕ → ℕ → ℕ → Told
-buffers field wanted input target length′ = no4 wanted (length input) or no5 target length′ or no6 field input
+abbrev pub sizes : Order → Told
+sizes o = numbers (o .field) (o .shares) (o .size)
 
 -- Deal: 1 to 7
 unfoldable pub dealOrder : Order → List ℕ → ℕ → ℕ → Told

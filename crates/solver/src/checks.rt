@@ -1,138 +1,24 @@
-// The checks of the public calls: 01's table of refusals and the order of each call. Nothing lent is written.
+// The checks of the public calls: the order of each, with refusals 10 to 12, which are about a progress record. Nothing lent is written.
 ghost use mathlib.Core.Path.{_≡_};
 ghost use mathlib.Core.Bool.{true};
 ghost use Prim.Native.Nat.{_≤_};
 ghost use lib.ListN.{length, take};
 ghost use Rattle.course.specs.StepList.{Sizes, inList, maskCost, nonzeroCost};
-ghost use Rattle.solver.specs.Told.{when, passed, refused, _or_};
-ghost use Rattle.solver.specs.Refusals.{paper, outside, firstPlace, tooLarge, zeroDraw, placed, ended, entries, wholeTable, dealDraws, maskAt, nonzeroAt, zeroPivotOf, columnOf, no1, no6, no7, no9, no12, sizes, buffers, dealOrder, gatherOrder, tapes, solveOrder, standing, wantedOrder, placing, lending, stepOrder};
-ghost use Rattle.solver.specs.Verdicts.{told};
-ghost use Rattle.solver.specs.Scan.{someBits};
-use super::Refusal;
+ghost use Rattle.verdict.specs.Told.{passed, _or_};
+ghost use Rattle.verdict.specs.Refusals.{no7, no9, buffers};
+ghost use Rattle.solver.specs.Refusals.{placed, ended, entries, wholeTable, dealDraws, maskAt, nonzeroAt, zeroPivotOf, columnOf, no12, sizes, dealOrder, gatherOrder, tapes, solveOrder, standing, wantedOrder, placing, lending, stepOrder};
+ghost use Rattle.verdict.specs.Code.Verdicts.{told};
 use course::Order;
 use course::Place;
 use course::Step;
-
-pub enum Verdict {
-    Pass,
-    Refuse(Refusal),
-}
-
-// The first verdict, or the second where the first passes.
-fn or_else(v: Verdict, w: Verdict) -> Verdict
-    ensures { λ r. ⌜ told r ≡ told v or told w ⌝ }
-{
-    match v {
-        Verdict::Pass => w,
-        Verdict::Refuse(_) => v,
-    }
-}
-
-// r where the test holds.
-fn refuse_if(applies: bool, r: Refusal) -> Verdict
-    ensures { λ v. ⌜ told v ≡ when applies (refused (paper r)) ⌝ }
-{
-    if applies {
-        Verdict::Refuse(r)
-    } else {
-        Verdict::Pass
-    }
-}
-
-fn is_outside(low: u64, high: u64, x: u64) -> bool
-    ensures { λ r. ⌜ r ≡ outside low high x ⌝ }
-{
-    x < low || high < x
-}
-
-fn no1(field: u64) -> Verdict
-    ensures { λ r. ⌜ told r ≡ no1 field ⌝ }
-{
-    refuse_if(field != 16 && field != 256, Refusal::Field(field))
-}
+use verdict::Refusal;
+use verdict::Verdict;
 
 // 1 to 3
 pub fn sizes(o: Order) -> Verdict
     ensures { λ r. ⌜ told r ≡ sizes o ⌝ }
 {
-    let v = no1(o.field);
-    let v = or_else(
-        v,
-        refuse_if(is_outside(2, 4, o.shares), Refusal::Shares(o.shares)),
-    );
-    or_else(
-        v,
-        refuse_if(is_outside(1, 96, o.size), Refusal::Size(o.size)),
-    )
-}
-
-fn is_too_large(f: u64, x: u8) -> bool
-    ensures { λ r. ⌜ r ≡ tooLarge f x ⌝ }
-{
-    f == 16 && 16 <= x
-}
-
-fn is_zero_draw(f: u64, x: u8) -> bool
-    ensures { λ r. ⌜ r ≡ zeroDraw f x ⌝ }
-{
-    field::draw(f, x) == 0
-}
-
-// The bits that some byte has: below 16 where each byte is. Every call looks at the whole table, and here the compiler takes many bytes at
-// once.
-fn some_bits(s: &[u8]) -> u8
-    ensures { λ r. ⌜ r ≡ someBits (now (s .entry)) ⌝ }
-{
-    let mut v: u8 = 0;
-    for i in 0..s.len() {
-        v |= s[i];
-    }
-    v
-}
-
-fn first_too_large(f: u64, s: &[u8]) -> usize
-    ensures { λ r. ⌜ r ≡ firstPlace (tooLarge f) (now (s .entry)) ⌝ }
-{
-    if f == 16 {
-        if some_bits(s) < 16 {
-            return s.len();
-        }
-    }
-    let mut i = 0;
-    while i < s.len() {
-        if is_too_large(f, s[i]) {
-            return i;
-        }
-        i += 1;
-    }
-    i
-}
-
-fn first_zero_draw(f: u64, s: &[u8]) -> usize
-    ensures { λ r. ⌜ r ≡ firstPlace (zeroDraw f) (now (s .entry)) ⌝ }
-{
-    let mut i = 0;
-    while i < s.len() {
-        if is_zero_draw(f, s[i]) {
-            return i;
-        }
-        i += 1;
-    }
-    i
-}
-
-fn no6(f: u64, input: &[u8]) -> Verdict
-    ensures { λ r. ⌜ told r ≡ no6 f (now (input .entry)) ⌝ }
-{
-    let i = first_too_large(f, input);
-    refuse_if(i < input.len(), Refusal::Entry(i))
-}
-
-fn no9(f: u64, draws: &[u8]) -> Verdict
-    ensures { λ r. ⌜ told r ≡ no9 f (now (draws .entry)) ⌝ }
-{
-    let i = first_zero_draw(f, draws);
-    refuse_if(i < draws.len(), Refusal::ZeroDraw(i))
+    verdict::numbers(o.field, o.shares, o.size)
 }
 
 fn entry_count(m: u64) -> usize
@@ -157,25 +43,13 @@ fn deal_draws(o: Order) -> usize
     entry_count(o.size) * (o.shares as usize - 1)
 }
 
-// 4 to 6, of what is read and of what is written. Bytes are looked at only where their length is right, here and below.
-fn buffers(f: u64, wanted: usize, input: &[u8], target: usize, length: usize) -> Verdict
-    ensures { λ r. ⌜ told r ≡ buffers f wanted (now (input .entry)) target length ⌝ }
-{
-    let v = refuse_if(input.len() != wanted, Refusal::Input(wanted));
-    let v = or_else(v, refuse_if(length != target, Refusal::Target(target)));
-    let Verdict::Pass = v else {
-        return v;
-    };
-    no6(f, input)
-}
-
 fn deal_lent(o: Order, values: &[u8], target: usize, mask: usize) -> Verdict
     requires { ⌜ Sizes o ⌝ }
     ensures { λ r. ⌜ told r ≡ buffers (o .field) (entries (o .size)) (now (values .entry)) (wholeTable o) target or no7 (dealDraws o) mask ⌝ }
 {
     let draws = deal_draws(o);
-    let v = buffers(o.field, entry_count(o.size), values, whole_table(o), target);
-    or_else(v, refuse_if(mask < draws, Refusal::MaskTape(draws)))
+    let v = verdict::buffers(o.field, entry_count(o.size), values, whole_table(o), target);
+    verdict::or_else(v, verdict::no7(draws, mask))
 }
 
 // 1 to 7
@@ -197,7 +71,7 @@ pub fn gather(o: Order, table: &[u8], target: usize) -> Verdict
     let Verdict::Pass = v else {
         return v;
     };
-    buffers(o.field, whole_table(o), table, entry_count(o.size), target)
+    verdict::buffers(o.field, whole_table(o), table, entry_count(o.size), target)
 }
 
 // The first k bytes of s, or all of them where there are fewer.
@@ -215,22 +89,19 @@ fn tapes(o: Order, mask: usize, nonzero: &[u8]) -> Verdict
     let full = course::full_counts(o);
     let draws = full.mask;
     let others = full.nonzero;
-    let v = refuse_if(mask < draws, Refusal::MaskTape(draws));
-    let v = or_else(
-        v,
-        refuse_if(nonzero.len() < others, Refusal::NonzeroTape(others)),
-    );
+    let v = verdict::no7(draws, mask);
+    let v = verdict::or_else(v, verdict::no8(others, nonzero.len()));
     let Verdict::Pass = v else {
         return v;
     };
-    no9(o.field, front(nonzero, others))
+    verdict::no9(o.field, front(nonzero, others))
 }
 
 fn solve_lent(o: Order, table: &[u8], solution: usize, mask: usize, nonzero: &[u8]) -> Verdict
     requires { ⌜ Sizes o ⌝ }
     ensures { λ r. ⌜ told r ≡ buffers (o .field) (wholeTable o) (now (table .entry)) (o .size) solution or tapes o mask (now (nonzero .entry)) ⌝ }
 {
-    let v = buffers(o.field, whole_table(o), table, o.size as usize, solution);
+    let v = verdict::buffers(o.field, whole_table(o), table, o.size as usize, solution);
     let Verdict::Pass = v else {
         return v;
     };
@@ -253,7 +124,7 @@ fn is_placed(m: u64, p: Place) -> bool
 {
     match p {
         Place::At(s) => course::in_list(m, s),
-        Place::Stopped(j) => !is_outside(1, m, j),
+        Place::Stopped(j) => !verdict::is_outside(1, m, j),
         Place::Done => true,
     }
 }
@@ -272,8 +143,8 @@ fn is_ended(p: Place) -> bool
 fn standing(m: u64, p: Place) -> Verdict
     ensures { λ r. ⌜ told r ≡ standing m p ⌝ }
 {
-    let v = refuse_if(!is_placed(m, p), Refusal::OffList);
-    or_else(v, refuse_if(is_ended(p), Refusal::Ended))
+    let v = verdict::refuse_if(!is_placed(m, p), Refusal::OffList);
+    verdict::or_else(v, verdict::refuse_if(is_ended(p), Refusal::Ended))
 }
 
 // 1, 2, 3, 10, 11
@@ -281,7 +152,7 @@ pub fn wanted(o: Order, p: Place) -> Verdict
     ensures { λ r. ⌜ told r ≡ wantedOrder o p ⌝ }
 {
     let v = sizes(o);
-    or_else(v, standing(o.size, p))
+    verdict::or_else(v, standing(o.size, p))
 }
 
 // 4, 5, 10, 11
@@ -291,9 +162,8 @@ fn placing(o: Order, p: Place, table: usize, solution: usize) -> Verdict
 {
     let whole = whole_table(o);
     let m = o.size as usize;
-    let v = refuse_if(table != whole, Refusal::Input(whole));
-    let v = or_else(v, refuse_if(solution != m, Refusal::Target(m)));
-    or_else(v, standing(o.size, p))
+    let v = verdict::or_else(verdict::no4(whole, table), verdict::no5(m, solution));
+    verdict::or_else(v, standing(o.size, p))
 }
 
 // The mask draws of a place.
@@ -329,16 +199,13 @@ fn lending(o: Order, p: Place, table: &[u8], mask: usize, nonzero: &[u8]) -> Ver
 {
     let draws = mask_at(o, p);
     let others = nonzero_at(o, p);
-    let v = no6(o.field, table);
-    let v = or_else(v, refuse_if(mask != draws, Refusal::MaskTape(draws)));
-    let v = or_else(
-        v,
-        refuse_if(nonzero.len() != others, Refusal::NonzeroTape(others)),
-    );
+    let v = verdict::no6(o.field, table);
+    let v = verdict::or_else(v, verdict::no7step(draws, mask));
+    let v = verdict::or_else(v, verdict::no8step(others, nonzero.len()));
     let Verdict::Pass = v else {
         return v;
     };
-    no9(o.field, nonzero)
+    verdict::no9(o.field, nonzero)
 }
 
 // Whether the pivot of a Scale is 0, by opening it blinded, on copies: the shares are never summed bare.
@@ -395,7 +262,7 @@ fn no12(o: Order, p: Place, table: &[u8], mask: &[u8], nonzero: &[u8]) -> Verdic
     ensures { λ r. ⌜ told r ≡ no12 o p (now (table .entry)) ⌝ }
 {
     match p {
-        Place::At(s) => refuse_if(
+        Place::At(s) => verdict::refuse_if(
             pivot_is_zero(o, s, table, mask, nonzero),
             Refusal::ZeroPivot(column_of(s)),
         ),

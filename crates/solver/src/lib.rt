@@ -5,39 +5,16 @@ mod checks;
 
 ghost use mathlib.Core.Path.{_≡_};
 ghost use Rattle.walk.specs.Act.{held};
-ghost use Rattle.solver.specs.Calls.{after, gives, order, startSays, startCall, countSays, countsCall, fillSays, dealCall, gatherCall, solveSays, solveCall, Tells, Taken, stepSays, stepCall, tells, lent, wantSays, wantedCall};
-use checks::Verdict;
+ghost use Rattle.verdict.specs.Calls.{after, gives};
+ghost use Rattle.solver.specs.Calls.{order, startSays, startCall, countSays, countsCall, fillSays, dealCall, gatherCall, solveSays, solveCall, Tells, Taken, stepSays, stepCall, tells, lent, wantSays, wantedCall};
 use course::Counts;
 use course::Order;
 use course::Place;
 use course::Progress;
 use course::Step;
+use verdict::Refusal;
+use verdict::Verdict;
 use walk::Ending;
-
-// 01's table of refusals, with each one's detail.
-pub enum Refusal {
-    // 1: the field's number
-    Field(u64),
-    // 2: the number of shares
-    Shares(u64),
-    // 3: the size
-    Size(u64),
-    // 4 and 5: the length wanted
-    Input(usize),
-    Target(usize),
-    // 6: the first place
-    Entry(usize),
-    // 7 and 8: the length wanted
-    MaskTape(usize),
-    NonzeroTape(usize),
-    // 9: the first place
-    ZeroDraw(usize),
-    // 10 and 11
-    OffList,
-    Ended,
-    // 12: j
-    ZeroPivot(u64),
-}
 
 pub enum Starting {
     Fresh(Progress),

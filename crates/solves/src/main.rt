@@ -3,9 +3,9 @@
 use course::Order;
 use course::Place;
 use course::Progress;
-use solver::Refusal;
 use solver::Starting;
 use solver::Stepping;
+use verdict::Refusal;
 
 // The nonzero draws of F16, each once; the largest system takes as many.
 const NONZERO: [u8; 15] = *b"\xba\x9f\x16\x53\xc1\x8d\x72\x2e\xe9\x34\x0b\xf7\x65\xd8\x4c";

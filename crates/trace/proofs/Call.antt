@@ -13,12 +13,13 @@ use Rattle.course.specs.declared.Place.{Place}
 use Rattle.course.specs.declared.Place.the-variants.{At, Stopped, Done}
 use Rattle.course.specs.declared.Order.{Order}
 use Rattle.walk.specs.Act.{Held, opened, acted}
-use Rattle.solver.specs.Told.{Told, passed, refused, Line}
+use Rattle.verdict.specs.Told.{Told, passed, refused, Line}
 use Rattle.solver.specs.Refusals.{placed, ended, maskAt, nonzeroAt, stepOrder}
-use Rattle.solver.specs.Calls.{refuses, call, stepDoes, stepCall}
+use Rattle.verdict.specs.Calls.{refuses, call}
+use Rattle.solver.specs.Calls.{stepDoes, stepCall}
 use Rattle.trace.specs.Trace.{Beside, Host, called, lends, hostAfter, orderIn, written, Refused, Accepted}
-use Rattle.solver.proofs.Ready.{Going, going, no-zero}
-use Rattle.trace.proofs.Admitted.{six-says}
+use Rattle.verdict.proofs.Passes.{six-says, nine-says}
+use Rattle.solver.proofs.Ready.{Going, going}
 
 -- a step writes the solution as 01 says
 pub acted-written : (o : Order) (s : Step) (ds nz : List ℕ) (h : Held) → acted o s ds nz h .solution ≡ written s (opened o s ds h) (h .solution)
@@ -62,7 +63,7 @@ module _ (h : Host) (c : Beside) where
       solution = w .at .room;
       mask = w .lent .masks;
       nonzero = w .lent .others;
-      drawn = no-zero (orderIn h .field) (c .nonzero) (w .lent .nonzeros);
+      drawn = nine-says (orderIn h .field) (c .nonzero) (w .lent .nonzeros);
       says = rw (v, e);
       after = rw (v, e, acted-written (orderIn h) s (c .mask) (c .nonzero) (lends h c));
     },

@@ -16,11 +16,13 @@ use Rattle.walk.specs.Dealing.{dealt}
 use Rattle.meaning.specs.Meaning.{valueOf}
 use Rattle.meaning.proofs.Walked.{NoZero}
 use Rattle.meaning.proofs.Dealt.{dealt-length, dealt-below, gather-deal, dealtFor-value}
-use Rattle.solver.specs.Told.{Told, passed, refused}
+use Rattle.verdict.specs.Told.{Told, passed, refused}
 use Rattle.solver.specs.Refusals.{entries, wholeTable, dealOrder, solveOrder}
-use Rattle.solver.specs.Calls.{refuses, gives, after, call, filled, dealCall, gatherCall}
+use Rattle.verdict.specs.Calls.{refuses, gives, after, call}
+use Rattle.solver.specs.Calls.{filled, dealCall, gatherCall}
+use Rattle.verdict.proofs.Passes.{six-says}
 use Rattle.solver.proofs.Ready.{Dealing, dealing}
-use Rattle.trace.proofs.Admitted.{six-says, gather-passes, solve-passes}
+use Rattle.trace.proofs.Admitted.{gather-passes, solve-passes}
 
 module _ (o : Order) (values mask table : List ℕ) where
   abbrev checks : Told

@@ -27,12 +27,14 @@ use Rattle.walk.specs.Walk.{solved}
 use Rattle.meaning.specs.Meaning.{IsSolved, IsStopped, Means}
 use Rattle.meaning.proofs.Walked.{NoZero}
 use Rattle.meaning.proofs.Meant.{Lent, meant}
-use Rattle.solver.specs.Told.{passed}
+use Rattle.verdict.specs.Told.{passed}
 use Rattle.solver.specs.Refusals.{wholeTable, solveOrder, maskAt, nonzeroAt}
-use Rattle.solver.specs.Calls.{gives, solveDoes, solveCall}
-use Rattle.solver.proofs.Ready.{Solvable, solvable, no-zero}
+use Rattle.verdict.specs.Calls.{gives}
+use Rattle.solver.specs.Calls.{solveDoes, solveCall}
+use Rattle.verdict.proofs.Passes.{six-says, nine-says}
+use Rattle.solver.proofs.Ready.{Solvable, solvable}
 use Rattle.trace.specs.Trace.{Beside, Host, begin, hostAfter, drive, Refused, Accepted, countsIn, Begins, Agrees, Admitted, Fit, calls, after, Supplies, Ended, Own}
-use Rattle.trace.proofs.Admitted.{six-says, step-passes}
+use Rattle.trace.proofs.Admitted.{step-passes}
 use Rattle.trace.proofs.Call.{verdict, accepted-call, each-call}
 use Rattle.trace.proofs.Reached.{reached, order-kept}
 use Rattle.trace.proofs.Trace.{last-call, sole-at, agrees, agrees-call}
@@ -155,7 +157,7 @@ module _ (o : Order) (t y ms zs : List ℕ) (passes : solveOrder o t (length y) 
 
   not-zero : (k : ℕ) → k < fullNonzero o → drawAt (fieldOf (o .field)) zs k ≡ 0 → ⊥
   not-zero k h e =
-      no-zero (o .field) (take (fullNonzero o) zs) (checked .nonzeros) k (rw (length-take-le (fullNonzero o) zs (checked .others)) h)
+      nine-says (o .field) (take (fullNonzero o) zs) (checked .nonzeros) k (rw (length-take-le (fullNonzero o) zs (checked .others)) h)
       (ap (draw (fieldOf (o .field))) (getD-take (fullNonzero o) zs k 0 h) ∙ e)
 
   part-long : (a c full : ℕ) (tape : List ℕ) → a + c ≤ full → full ≤ length tape → length (take c (drop a tape)) ≡ c

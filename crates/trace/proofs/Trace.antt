@@ -16,9 +16,11 @@ use Rattle.course.specs.StepList.{Sizes, stepList}
 use Rattle.course.proofs.Along.{Along, first, none, along-in, stop-in, counted-done, counted-stop}
 use Rattle.walk.specs.Act.{held}
 use Rattle.walk.specs.Walk.{Course, running, walk, fresh, conclude, solved}
-use Rattle.solver.specs.Told.{passed}
-use Rattle.solver.specs.Refusals.{outside, placed, solveOrder}
-use Rattle.solver.specs.Calls.{call, solveDoes, solveCall}
+use Rattle.verdict.specs.Told.{passed}
+use Rattle.verdict.specs.Refusals.{outside}
+use Rattle.solver.specs.Refusals.{placed, solveOrder}
+use Rattle.verdict.specs.Calls.{call}
+use Rattle.solver.specs.Calls.{solveDoes, solveCall}
 use Rattle.trace.specs.Trace.{Beside, Host, begin, hostAfter, drive, orderIn, Refused, Accepted, countsIn, Counted, Begins, Agrees, Never}
 use Rattle.trace.proofs.Verdict.{tests, never-given}
 use Rattle.trace.proofs.Call.{each-call, refusal}

@@ -9,8 +9,9 @@ use native.Mathlib.Omega.{arith}
 use lib.ListN.{length, getD}
 use Rattle.course.specs.declared.Place.{Place}
 use Rattle.course.specs.declared.Order.{Order}
-use Rattle.solver.specs.Told.{Told, passed, refused, Line, refuse, _or_}
-use Rattle.solver.specs.Refusals.{differs, outside, anyPlace, tooLarge, zeroDraw, wholeTable, placed, ended, maskAt, nonzeroAt, zeroPivot, no1, no2, no3, no4, no5, no6, no7step, no8step, no9, no10, no11, no12, sizes, standing, placing, lending, stepOrder}
+use Rattle.verdict.specs.Told.{Told, passed, refused, Line, refuse, _or_}
+use Rattle.verdict.specs.Refusals.{differs, outside, anyPlace, tooLarge, zeroDraw, no1, no2, no3, no4, no5, no6, no7step, no8step, no9, numbers}
+use Rattle.solver.specs.Refusals.{wholeTable, placed, ended, maskAt, nonzeroAt, zeroPivot, no10, no11, no12, sizes, standing, placing, lending, stepOrder}
 
 -- an order that does not give refusal k
 pub record Without (k : ℕ) (v : Told) : Type 0 where
@@ -57,7 +58,7 @@ module _ (o : Order) (p : Place) (t : List ℕ) (solution mask : ℕ) (nonzero :
     ]
 
     sizes-without : Without k (sizes o)
-    unfolding sizes no1 no2 no3
+    unfolding numbers no1 no2 no3
     sizes-without = without-or (no1 (o .field) or no2 (o .shares)) (without-or (no1 (o .field)) (at 1 _) (at 2 _)) (at 3 _)
 
     placing-without : Without k (placing o p (length t) solution)

@@ -6,9 +6,10 @@ use Prim.Native.Nat.{ℕ}
 use native.Mathlib.Omega.{arith}
 use lib.ListN.{length}
 use borrow.Author.Tests.{eq-eqb}
-use Rattle.solver.specs.Told.{Told, passed, refused}
+use Rattle.verdict.specs.Told.{Told, passed, refused}
 use Rattle.solver.specs.Refusals.{maskAt, nonzeroAt, wantedOrder}
-use Rattle.solver.specs.Calls.{refuses, gives, call, Draws, draws, wantedCall}
+use Rattle.verdict.specs.Calls.{refuses, gives, call}
+use Rattle.solver.specs.Calls.{Draws, draws, wantedCall}
 use Rattle.trace.specs.Trace.{Beside, Host, orderIn, Never}
 use Rattle.trace.proofs.Trace.{unmet}
 

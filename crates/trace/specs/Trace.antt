@@ -22,9 +22,10 @@ use Rattle.course.specs.Next.{nextOf, startOf}
 use Rattle.walk.specs.declared.Ending.{Ending}
 use Rattle.walk.specs.declared.Ending.the-variants as E
 use Rattle.walk.specs.Act.{Held, held, opened, acted}
-use Rattle.solver.specs.Told.{Line}
+use Rattle.verdict.specs.Told.{Line}
 use Rattle.solver.specs.Refusals.{wholeTable}
-use Rattle.solver.specs.Calls.{Says, refuses, gives, Outcome, Stride, tells, Lent, lent, orderOf, stepCall}
+use Rattle.verdict.specs.Calls.{Says, refuses, gives, Outcome}
+use Rattle.solver.specs.Calls.{Stride, tells, Lent, lent, orderOf, stepCall}
 
 -- what a call is lent beside the record and the table
 pub record Beside : Type 0 where

@@ -2,10 +2,11 @@
 -- Assumes nothing.
 use mathlib.Core.Path.{ap, _∙_}
 use borrow.Author.Needs.{needs}
-use Rattle.solver.specs.Calls.{countsCall, after, gives}
+use Rattle.verdict.specs.Calls.{after, gives}
+use Rattle.solver.specs.Calls.{countsCall}
 use Rattle.solver.proofs.Ready.{sized}
-use Rattle.solver.proofs.Verdicts.{passes}
-use Rattle.solver.proofs.Calls.{refuses-call, passes-call}
+use Rattle.verdict.proofs.Verdicts.{passes}
+use Rattle.verdict.proofs.Calls.{refuses-call, passes-call}
 use Rattle.solver.proofs.counts.Statement.{statement}
 use Rattle.solver.proofs.counts.Tie as tie
 

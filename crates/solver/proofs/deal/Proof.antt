@@ -2,10 +2,11 @@
 -- Assumes nothing.
 use mathlib.Core.Path.{ap, _∙_}
 use borrow.Author.Needs.{needs}
-use Rattle.solver.specs.Calls.{after, gives, filled, dealCall}
-use Rattle.solver.proofs.Calls.{refuses-call, passes-call}
+use Rattle.verdict.specs.Calls.{after, gives}
+use Rattle.solver.specs.Calls.{filled, dealCall}
+use Rattle.verdict.proofs.Calls.{refuses-call, passes-call}
 use Rattle.solver.proofs.Ready.{dealing, deal-ready}
-use Rattle.solver.proofs.Verdicts.{passes}
+use Rattle.verdict.proofs.Verdicts.{passes}
 use Rattle.solver.proofs.deal.Statement.{statement}
 use Rattle.solver.proofs.deal.Tie as tie
 

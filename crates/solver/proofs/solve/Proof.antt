@@ -7,11 +7,13 @@ use borrow.Author.Needs.{needs}
 use Rattle.course.specs.declared.Order.{Order}
 use Rattle.walk.specs.declared.Ending.{Ending}
 use Rattle.walk.specs.Act.{Held, held}
-use Rattle.solver.specs.Calls.{Says, after, order, solveCall, Tells, Taken}
+use Rattle.verdict.specs.Calls.{Says, after}
+use Rattle.solver.specs.Calls.{order, solveCall, Tells, Taken}
 use Rattle.solver.proofs.Meaning.{means, takes}
-use Rattle.solver.proofs.Calls.{refuses-call, passes-call, solve-done}
+use Rattle.verdict.proofs.Calls.{refuses-call, passes-call}
+use Rattle.solver.proofs.Calls.{solve-done}
 use Rattle.solver.proofs.Ready.{solvable, solve-ready}
-use Rattle.solver.proofs.Verdicts.{passes}
+use Rattle.verdict.proofs.Verdicts.{passes}
 use Rattle.solver.proofs.solve.Statement.{statement}
 use Rattle.solver.proofs.solve.Tie as tie
 

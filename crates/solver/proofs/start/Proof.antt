@@ -2,8 +2,9 @@
 -- Assumes nothing.
 use mathlib.Core.Path.{ap, _∙_}
 use borrow.Author.Needs.{needs}
-use Rattle.solver.specs.Calls.{startCall, after, gives}
-use Rattle.solver.proofs.Calls.{refuses-call, passes-call}
+use Rattle.verdict.specs.Calls.{after, gives}
+use Rattle.solver.specs.Calls.{startCall}
+use Rattle.verdict.proofs.Calls.{refuses-call, passes-call}
 use Rattle.solver.proofs.start.Statement.{statement}
 use Rattle.solver.proofs.start.Tie as tie
 

@@ -5,9 +5,10 @@ use mathlib.Core.Path.{_∙_}
 use native.Mathlib.Omega.{arith}
 use borrow.Author.Needs.{needs}
 use Rattle.solver.specs.Calls.{stepCall}
-use Rattle.solver.proofs.Calls.{refuses-call, passes-call, step-done, step-stays}
+use Rattle.verdict.proofs.Calls.{refuses-call, passes-call}
+use Rattle.solver.proofs.Calls.{step-done, step-stays}
 use Rattle.solver.proofs.Ready.{going, step-ready}
-use Rattle.solver.proofs.Verdicts.{passes}
+use Rattle.verdict.proofs.Verdicts.{passes}
 use Rattle.solver.proofs.step.Statement.{statement}
 use Rattle.solver.proofs.step.Tie as tie
 

@@ -3,10 +3,11 @@
 use mathlib.Core.Path.{ap₂, _∙_}
 use Prim.Native.Nat.{ℕ}
 use borrow.Author.Needs.{needs}
-use Rattle.solver.specs.Calls.{after, gives, draws, wantedCall}
-use Rattle.solver.proofs.Calls.{refuses-call, passes-call}
+use Rattle.verdict.specs.Calls.{after, gives}
+use Rattle.solver.specs.Calls.{draws, wantedCall}
+use Rattle.verdict.proofs.Calls.{refuses-call, passes-call}
 use Rattle.solver.proofs.Ready.{wanting}
-use Rattle.solver.proofs.Verdicts.{passes}
+use Rattle.verdict.proofs.Verdicts.{passes}
 use Rattle.solver.proofs.wanted.Statement.{statement}
 use Rattle.solver.proofs.wanted.Tie as tie
 

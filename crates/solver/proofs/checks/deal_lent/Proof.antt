@@ -1,8 +1,7 @@
 -- `checks::deal_lent` meets its contract: each check tells what its definition says, and they are joined in its order.
 -- Assumes nothing.
 use borrow.Author.Needs.{needs}
-use Rattle.solver.specs.Refusals.{no7}
-use Rattle.solver.proofs.Verdicts.{ors}
+use Rattle.verdict.proofs.Verdicts.{ors}
 use Rattle.solver.proofs.checks.deal_lent.Statement.{statement}
 use Rattle.solver.proofs.checks.deal_lent.Tie as tie
 
@@ -18,18 +17,17 @@ whole-table-requires c κs = search needs
 buffers-requires : tie.Need-buffers-requires
 buffers-requires c κs = search needs
 
-refuse-if-requires : tie.Need-refuse-if-requires
-refuse-if-requires c κs = search needs
+no7-requires : tie.Need-no7-requires
+no7-requires c κs = search needs
 
 or-else-requires : tie.Need-or-else-requires
 or-else-requires c κs = search needs
 
 returns : tie.Need-returns
-unfolding no7
 returns c =
     rw (← (c .before .before .before .before .before .deal-draws .ensures))
     (rw (← (c .before .before .before .before .entry-count .ensures .0), ← (c .before .before .before .whole-table .ensures))
-    (ors (c .or-else .ensures) (c .before .before .buffers .ensures) (c .before .refuse-if .ensures)))
+    (ors (c .or-else .ensures) (c .before .before .buffers .ensures) (c .before .no7 .ensures)))
 
 pub deal-lent-spec : {M : Type 1} → statement M
 deal-lent-spec =
@@ -39,6 +37,6 @@ deal-lent-spec =
     entry-count-requires
     whole-table-requires
     buffers-requires
-    refuse-if-requires
+    no7-requires
     or-else-requires
     returns)

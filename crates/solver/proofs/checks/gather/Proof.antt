@@ -4,7 +4,7 @@ use mathlib.Core.Path.{_∙_}
 use borrow.Author.Needs.{needs}
 use Rattle.solver.specs.Refusals.{gatherOrder}
 use Rattle.solver.proofs.Ready.{sized}
-use Rattle.solver.proofs.Verdicts.{stops-at, goes-on, passes}
+use Rattle.verdict.proofs.Verdicts.{stops-at, goes-on, passes}
 use Rattle.solver.proofs.checks.gather.Statement.{statement}
 use Rattle.solver.proofs.checks.gather.Tie as tie
 

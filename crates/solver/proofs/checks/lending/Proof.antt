@@ -2,8 +2,9 @@
 -- Assumes nothing.
 use mathlib.Core.Path.{_∙_}
 use borrow.Author.Needs.{needs}
-use Rattle.solver.specs.Refusals.{lending, no7step, no8step}
-use Rattle.solver.proofs.Verdicts.{stops-at, goes-on, ors}
+use Rattle.verdict.specs.Refusals.{no7step, no8step}
+use Rattle.solver.specs.Refusals.{lending}
+use Rattle.verdict.proofs.Verdicts.{stops-at, goes-on, ors}
 use Rattle.solver.proofs.checks.lending.Statement.{statement}
 use Rattle.solver.proofs.checks.lending.Tie as tie
 
@@ -16,14 +17,14 @@ nonzero-at-requires c κs = search needs
 no6-requires : tie.Need-no6-requires
 no6-requires c κs = search needs
 
-refuse-if-requires : tie.Need-refuse-if-requires
-refuse-if-requires c κs = search needs
+no7step-requires : tie.Need-no7step-requires
+no7step-requires c κs = search needs
 
 or-else-requires : tie.Need-or-else-requires
 or-else-requires c κs = search needs
 
-refuse-if-requires-2 : tie.Need-refuse-if-requires-2
-refuse-if-requires-2 c κs = search needs
+no8step-requires : tie.Need-no8step-requires
+no8step-requires c κs = search needs
 
 or-else-requires-2 : tie.Need-or-else-requires-2
 or-else-requires-2 c κs = search needs
@@ -35,27 +36,27 @@ enum-told-2 : tie.Need-enum-told-2
 enum-told-2 c = search needs
 
 returns : tie.Need-returns
-unfolding lending no7step no8step
+unfolding lending
 returns c =
     let l = c .before .before in
     let s = l .before .before .before .before in
     rw (← (s .before .before .mask-at .ensures), ← (s .before .nonzero-at .ensures))
     (stops-at _ _ _ _
-    (ors (l .or-else2 .ensures) (ors (l .before .before .or-else .ensures) (s .no6 .ensures) (l .before .before .before .refuse-if .ensures)) (l .before .refuse-if2 .ensures))
+    (ors (l .or-else2 .ensures) (ors (l .before .before .or-else .ensures) (s .no6 .ensures) (l .before .before .before .no7step .ensures)) (l .before .no8step .ensures))
     (c .enum-told2 .given .1))
 
 no9-requires : tie.Need-no9-requires
 no9-requires c κs = search needs
 
 returns-2 : tie.Need-returns-2
-unfolding lending no7step no8step
+unfolding lending
 returns-2 c =
     let l = c .before .before .before in
     let s = l .before .before .before .before in
     rw (← (s .before .before .mask-at .ensures), ← (s .before .nonzero-at .ensures))
     (c .no9 .ensures
     ∙ goes-on _ _ _
-    (ors (l .or-else2 .ensures) (ors (l .before .before .or-else .ensures) (s .no6 .ensures) (l .before .before .before .refuse-if .ensures)) (l .before .refuse-if2 .ensures))
+    (ors (l .or-else2 .ensures) (ors (l .before .before .or-else .ensures) (s .no6 .ensures) (l .before .before .before .no7step .ensures)) (l .before .no8step .ensures))
     (c .before .enum-told .given .1))
 
 pub lending-spec : {M : Type 1} → statement M
@@ -65,9 +66,9 @@ lending-spec =
     mask-at-requires
     nonzero-at-requires
     no6-requires
-    refuse-if-requires
+    no7step-requires
     or-else-requires
-    refuse-if-requires-2
+    no8step-requires
     or-else-requires-2
     enum-told
     enum-told-2

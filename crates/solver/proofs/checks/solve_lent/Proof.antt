@@ -2,7 +2,7 @@
 -- Assumes nothing.
 use mathlib.Core.Path.{_∙_}
 use borrow.Author.Needs.{needs}
-use Rattle.solver.proofs.Verdicts.{stops-at, goes-on}
+use Rattle.verdict.proofs.Verdicts.{stops-at, goes-on}
 use Rattle.solver.proofs.checks.solve_lent.Statement.{statement}
 use Rattle.solver.proofs.checks.solve_lent.Tie as tie
 

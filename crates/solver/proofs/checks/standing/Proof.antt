@@ -4,7 +4,7 @@ use mathlib.Core.Path.{ap}
 use mathlib.Core.Bool.{not}
 use borrow.Author.Needs.{needs}
 use Rattle.solver.specs.Refusals.{standing, no10, no11}
-use Rattle.solver.proofs.Verdicts.{ors, tests}
+use Rattle.verdict.proofs.Verdicts.{ors, tests}
 use Rattle.solver.proofs.checks.standing.Statement.{statement}
 use Rattle.solver.proofs.checks.standing.Tie as tie
 

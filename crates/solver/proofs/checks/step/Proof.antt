@@ -5,7 +5,7 @@ use native.Mathlib.Omega.{arith}
 use borrow.Author.Needs.{needs}
 use Rattle.solver.specs.Refusals.{stepOrder}
 use Rattle.solver.proofs.Ready.{sized, placing-says, lending-says}
-use Rattle.solver.proofs.Verdicts.{stops-at, goes-on, passes}
+use Rattle.verdict.proofs.Verdicts.{stops-at, goes-on, passes}
 use Rattle.solver.proofs.checks.step.Statement.{statement}
 use Rattle.solver.proofs.checks.step.Tie as tie
 

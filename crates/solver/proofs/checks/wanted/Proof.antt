@@ -2,7 +2,7 @@
 -- Assumes nothing.
 use borrow.Author.Needs.{needs}
 use Rattle.solver.specs.Refusals.{wantedOrder}
-use Rattle.solver.proofs.Verdicts.{ors}
+use Rattle.verdict.proofs.Verdicts.{ors}
 use Rattle.solver.proofs.checks.wanted.Statement.{statement}
 use Rattle.solver.proofs.checks.wanted.Tie as tie
 

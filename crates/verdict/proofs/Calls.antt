@@ -1,0 +1,26 @@
+-- A call at work: what it says and leaves where its checks refuse, and where they pass.
+-- Assumes nothing.
+use mathlib.Core.Path.{_≡_, sym, ap, _∙_}
+use Rattle.verdict.specs.declared.Refusal.{Refusal}
+use Rattle.verdict.specs.declared.Verdict.{Verdict}
+use Rattle.verdict.specs.declared.Verdict.the-variants.{Pass, Refuse}
+use Rattle.verdict.specs.Told.{Told, Line, passed, refused}
+use Rattle.verdict.specs.Refusals.{paper}
+use Rattle.verdict.specs.Calls.{refuses, Outcome, after, call}
+use Rattle.verdict.specs.Code.Verdicts.{told}
+
+module _ {A L : Type 0} where
+  pub call-goes : (x : Told) (found : L) (does : Outcome A L) → x ≡ passed → call x found does ≡ does
+  unfolding call
+  call-goes x found does e = rw e
+
+  pub call-stops : (x : Told) (found : L) (does : Outcome A L) (l : Line) → x ≡ refused l → call x found does ≡ after (refuses l) found
+  unfolding call
+  call-stops x found does l e = rw e
+
+  pub refuses-call : (v : Verdict) (r : Refusal) (x : Told) (found : L) (does : Outcome A L) → told v ≡ x → v ≡ Refuse r
+      → after (refuses (paper r)) found ≡ call x found does
+  refuses-call v r x found does e h = sym (call-stops x found does (paper r) (sym e ∙ ap told h))
+
+  pub passes-call : (v : Verdict) (x : Told) (found : L) (does : Outcome A L) → told v ≡ x → v ≡ Pass → does ≡ call x found does
+  passes-call v x found does e h = sym (call-goes x found does (sym e ∙ ap told h))

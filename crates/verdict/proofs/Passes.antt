@@ -1,0 +1,154 @@
+-- Each of the checks 1 to 9 both ways: what a pass says, and what passes.
+-- Assumes nothing.
+use mathlib.Core.Bool.{Bool, true, false, not, _||_, _&&_, false≢true}
+use mathlib.Core.List.{List, [], _∷_}
+use mathlib.Core.Logic.{_⊎_, inl, inr, ⊎-elim}
+use mathlib.Core.Path.{_≡_, refl, sym, ap, _∙_}
+use Prim.Native.Nat.{ℕ, suc, _<_, _≤_}
+use native.Mathlib.Decide.{decLt}
+use native.Mathlib.Nat.{le-refl}
+use native.Mathlib.Omega.{arith}
+use lib.Dec.{eqb, ltb}
+use lib.ListN.{length, getD, List·getD-eq-default}
+use borrow.Author.Tests.{ltb-false, leb-false, eqb-true, eqb-false, not-false, le-ltb, lt-leb, eq-eqb, ne-eqb}
+use Rattle.field.specs.Field.{fieldOf}
+use Rattle.field.proofs.Fields.{field-of}
+use Rattle.sharing.specs.Rules.{drawAt}
+use Rattle.sharing.specs.Lists.{Below}
+use Rattle.verdict.specs.Told.{Told, passed, refuse, _or_}
+use Rattle.verdict.specs.Refusals.{differs, outside, firstPlace, anyPlace, tooLarge, zeroDraw, no1, no2, no3, no4, no5, no6, no9, buffers}
+use Rattle.verdict.proofs.Told.{left, right, not-then}
+use Rattle.verdict.proofs.Scan.{before-first}
+
+pub unmet : (k : ℕ) {test : Bool} (d : List ℕ) → test ≡ false → refuse k test d ≡ passed
+unmet k d e = rw e
+
+-- ---- 1 to 3
+
+known : (s t : Bool) → not s && not t ≡ false → (s ≡ true) ⊎ (t ≡ true)
+known true t e = inl refl
+known false t e = inr (not-false t e)
+
+pub one-says : (f : ℕ) → no1 f ≡ passed → (f ≡ 16) ⊎ (f ≡ 256)
+unfolding no1
+one-says f e =
+    ⊎-elim (λ h. inl (eqb-true f 16 h)) (λ h. inr (eqb-true f 256 h)) (known (eqb f 16) (eqb f 256) (not-then _ _ e))
+
+pub one-passes : (f : ℕ) → (f ≡ 16) ⊎ (f ≡ 256) → no1 f ≡ passed
+unfolding no1
+one-passes f = ⊎-elim (λ (e : f ≡ 16). rw e) (λ (e : f ≡ 256). rw e)
+
+neither : (s t : Bool) → s || t ≡ false → (s ≡ false) × (t ≡ false)
+neither true t e = absurd (false≢true (sym e))
+neither false t e = (refl, e)
+
+module _ (low high x : ℕ) where
+  inside : outside low high x ≡ false → (low ≤ x) × (x ≤ high)
+  unfolding outside
+  inside e = let w = neither (ltb x low) (ltb high x) e in (ltb-false x low (w .0), ltb-false high x (w .1))
+
+  within : low ≤ x → x ≤ high → outside low high x ≡ false
+  unfolding outside
+  within a b = rw (le-ltb x low a, le-ltb high x b)
+
+pub two-says : (n : ℕ) → no2 n ≡ passed → (2 ≤ n) × (n ≤ 4)
+unfolding no2
+two-says n e = inside 2 4 n (not-then _ _ e)
+
+pub two-passes : (n : ℕ) → 2 ≤ n → n ≤ 4 → no2 n ≡ passed
+unfolding no2
+two-passes n a b = unmet 2 _ (within 2 4 n a b)
+
+pub three-says : (m : ℕ) → no3 m ≡ passed → (1 ≤ m) × (m ≤ 96)
+unfolding no3
+three-says m e = inside 1 96 m (not-then _ _ e)
+
+pub three-passes : (m : ℕ) → 1 ≤ m → m ≤ 96 → no3 m ≡ passed
+unfolding no3
+three-passes m a b = unmet 3 _ (within 1 96 m a b)
+
+-- ---- 4, 5, 7 and 8: a length that must be the one wanted, or may be more
+
+module _ (k : ℕ) {long wanted : ℕ} (d : List ℕ) where
+  pub same : refuse k (differs long wanted) d ≡ passed → long ≡ wanted
+  same e = eqb-true long wanted (not-false _ (not-then _ _ e))
+
+  pub right-length : long ≡ wanted → refuse k (differs long wanted) d ≡ passed
+  right-length e = unmet k d (ap not (eq-eqb long wanted e))
+
+  pub enough : refuse k (ltb long wanted) d ≡ passed → wanted ≤ long
+  enough e = ltb-false long wanted (not-then _ _ e)
+
+  pub long-enough : wanted ≤ long → refuse k (ltb long wanted) d ≡ passed
+  long-enough h = unmet k d (le-ltb long wanted h)
+
+-- ---- 6 and 9: no place meets the test
+
+module _ (test : ℕ → Bool) where
+  none-first : (xs : List ℕ) → ((k : ℕ) → k < length xs → test (getD xs k 0) ≡ false) → firstPlace test xs ≡ length xs
+  unfolding firstPlace
+  none-first [] h = refl
+  none-first (x ∷ xs) h = rw (h 0 (omega arith)) (ap suc (none-first xs (λ k l. h (suc k) (omega arith))))
+
+  module _ (k : ℕ) (xs d : List ℕ) where
+    no-place : ((i : ℕ) → i < length xs → test (getD xs i 0) ≡ false) → refuse k (anyPlace test xs) d ≡ passed
+    no-place h =
+        unmet k d (ap (λ (i : ℕ). ltb i (length xs)) (none-first xs h) ∙ le-ltb (length xs) (length xs) (le-refl (length xs)))
+
+    every-place : refuse k (anyPlace test xs) d ≡ passed → (i : ℕ) → i < length xs → test (getD xs i 0) ≡ false
+    every-place e i l =
+        let all : length xs ≤ firstPlace test xs = ltb-false _ _ (not-then _ _ e) in
+        before-first test xs i (omega arith)
+
+-- 6 passes over a list of elements
+pub six-passes : (f : ℕ) (t : List ℕ) → Below (fieldOf f .q) t → no6 f t ≡ passed
+unfolding no6 tooLarge
+six-passes f t b = no-place (tooLarge f) 6 t _ (λ i l. lt-leb (fieldOf f .q) (getD t i 0) (b .at i))
+
+-- and over no other list
+pub six-says : (f : ℕ) (t : List ℕ) → no6 f t ≡ passed → Below (fieldOf f .q) t
+unfolding no6 tooLarge
+six-says f t e = record { at = at }
+  where
+    at : (i : ℕ) → getD t i 0 < fieldOf f .q
+    at i = elim (decLt i (length t)) [
+      | yes l ↦ leb-false (fieldOf f .q) (getD t i 0) (every-place (tooLarge f) 6 t _ e i l)
+      | no n ↦ rw (List·getD-eq-default t 0 {n = i} (omega arith)) (field-of f .ring .pos)
+    ]
+
+pub nine-passes : (f : ℕ) (ds : List ℕ) → ((k : ℕ) → k < length ds → drawAt (fieldOf f) ds k ≡ 0 → ⊥) → no9 f ds ≡ passed
+unfolding no9 zeroDraw
+nine-passes f ds h = no-place (zeroDraw f) 9 ds _ (λ k l. ne-eqb _ 0 (h k l))
+
+pub nine-says : (f : ℕ) (ds : List ℕ) → no9 f ds ≡ passed → (k : ℕ) → k < length ds → drawAt (fieldOf f) ds k ≡ 0 → ⊥
+unfolding no9 zeroDraw
+nine-says f ds e k h = eqb-false _ _ (every-place (zeroDraw f) 9 ds _ e k h)
+
+-- ---- 4 to 6 together
+
+infixl 20 _and_
+pub _and_ : {a b : Told} → a ≡ passed → b ≡ passed → a or b ≡ passed
+unfolding _or_
+x and y = rw (x, y)
+
+module _ (f wanted : ℕ) (input : List ℕ) (target long : ℕ) where
+  pub record Buffers : Type 0 where
+    pub whole : length input ≡ wanted
+    pub room : long ≡ target
+    pub elements : no6 f input ≡ passed
+
+  pub buffered : buffers f wanted input target long ≡ passed → Buffers
+  unfolding buffers no4 no5
+  buffered e =
+      let a = no4 wanted (length input) in
+      let b = no5 target long in
+      let two : a or b ≡ passed = left (a or b) (no6 f input) e in
+      record {
+        whole = same 4 _ (left a b two);
+        room = same 5 _ (right a b two);
+        elements = right (a or b) (no6 f input) e;
+      }
+
+  pub buffers-pass : length input ≡ wanted → long ≡ target → Below (fieldOf f .q) input → buffers f wanted input target long ≡ passed
+  unfolding buffers no4 no5
+  buffers-pass a b c = right-length 4 _ a and right-length 5 _ b and six-passes f input c

@@ -1,0 +1,116 @@
+-- 01's table of refusals: the number and detail of each, and a definition for each of 1 to 9, which need no more than the numbers and bytes
+-- that they are about. 10 to 12 are about a progress record, and stand with the calls.
+-- Assumes nothing.
+use mathlib.Core.Bool.{Bool, true, false, not, _||_, _&&_}
+use mathlib.Core.List.{List, [], _∷_}
+use Prim.Native.Nat.{ℕ, suc}
+use lib.Dec.{eqb, ltb, leb}
+use lib.ListN.{length, getD}
+use Rattle.field.specs.Field.{draw, fieldOf}
+use Rattle.verdict.specs.declared.Refusal.{Refusal}
+use Rattle.verdict.specs.declared.Refusal.the-variants as R
+use Rattle.verdict.specs.declared.Report.{Report}
+use Rattle.verdict.specs.Told.{Told, Line, line, refuse, _or_}
+
+-- the paper's number and detail of each case of the enum
+abbrev pub paper : Refusal → Line
+paper (R.Field q) = line 1 (q ∷ [])
+paper (R.Shares n) = line 2 (n ∷ [])
+paper (R.Size m) = line 3 (m ∷ [])
+paper (R.Input wanted) = line 4 (wanted ∷ [])
+paper (R.Target wanted) = line 5 (wanted ∷ [])
+paper (R.Entry place) = line 6 (place ∷ [])
+paper (R.MaskTape wanted) = line 7 (wanted ∷ [])
+paper (R.NonzeroTape wanted) = line 8 (wanted ∷ [])
+paper (R.ZeroDraw place) = line 9 (place ∷ [])
+paper R.OffList = line 10 (0 ∷ [])
+paper R.Ended = line 11 (0 ∷ [])
+paper (R.ZeroPivot j) = line 12 (j ∷ [])
+
+-- the same as numbers: what a detail has not is 0
+abbrev pub reportOf : Line → Report
+reportOf l =
+    record { number = l .number; a = getD (l .detail) 0 0; b = getD (l .detail) 1 0; c = getD (l .detail) 2 0 }
+
+-- ---- what the table's words mean
+
+unfoldable pub outside : ℕ → ℕ → ℕ → Bool
+outside low high x = ltb x low || ltb high x
+
+abbrev pub differs : ℕ → ℕ → Bool
+differs a b = not (eqb a b)
+
+abbrev pub orNext : Bool → ℕ → ℕ
+orNext true i = 0
+orNext false i = suc i
+
+-- the first place, from 0, whose byte meets the test; the length where there is none
+unfoldable pub firstPlace : (ℕ → Bool) → List ℕ → ℕ
+firstPlace test [] = 0
+firstPlace test (x ∷ xs) = orNext (test x) (firstPlace test xs)
+
+abbrev pub anyPlace : (ℕ → Bool) → List ℕ → Bool
+anyPlace test xs = ltb (firstPlace test xs) (length xs)
+
+-- an entry that is no element of the field: 16 or more in F16
+unfoldable pub tooLarge : ℕ → ℕ → Bool
+tooLarge f x = leb (fieldOf f .q) x
+
+-- a byte whose draw is 0
+unfoldable pub zeroDraw : ℕ → ℕ → Bool
+zeroDraw f x = eqb (draw (fieldOf f) x) 0
+
+-- ---- the table: number, meaning, detail
+
+-- field neither 16 nor 256: the number
+unfoldable pub no1 : ℕ → Told
+no1 field = refuse 1 (differs field 16 && differs field 256) (field ∷ [])
+
+-- shares below 2 or above 4 (0 is a blank box): the number
+unfoldable pub no2 : ℕ → Told
+no2 shares = refuse 2 (outside 2 4 shares) (shares ∷ [])
+
+-- size below 1 or above 96: the number
+unfoldable pub no3 : ℕ → Told
+no3 size = refuse 3 (outside 1 96 size) (size ∷ [])
+
+-- input table or value list of wrong length: length wanted
+unfoldable pub no4 : ℕ → ℕ → Told
+no4 wanted length = refuse 4 (differs length wanted) (wanted ∷ [])
+
+-- solution or target of wrong length: length wanted
+unfoldable pub no5 : ℕ → ℕ → Told
+no5 wanted length = refuse 5 (differs length wanted) (wanted ∷ [])
+
+-- entry 16 or more in F16: first such place, from 0
+unfoldable pub no6 : ℕ → List ℕ → Told
+no6 field input = refuse 6 (anyPlace (tooLarge field) input) (firstPlace (tooLarge field) input ∷ [])
+
+-- mask tape too short: length wanted
+unfoldable pub no7 : ℕ → ℕ → Told
+no7 wanted length = refuse 7 (ltb length wanted) (wanted ∷ [])
+
+-- nonzero tape, likewise
+unfoldable pub no8 : ℕ → ℕ → Told
+no8 wanted length = refuse 8 (ltb length wanted) (wanted ∷ [])
+
+-- step: not the exact length
+unfoldable pub no7step : ℕ → ℕ → Told
+no7step wanted length = refuse 7 (differs length wanted) (wanted ∷ [])
+
+unfoldable pub no8step : ℕ → ℕ → Told
+no8step wanted length = refuse 8 (differs length wanted) (wanted ∷ [])
+
+-- one of the nonzero draws is 0: first such place, from 0
+unfoldable pub no9 : ℕ → List ℕ → Told
+no9 field draws = refuse 9 (anyPlace (zeroDraw field) draws) (firstPlace (zeroDraw field) draws ∷ [])
+
+-- ---- how they follow each other
+
+-- 1 to 3
+unfoldable pub numbers : ℕ → ℕ → ℕ → Told
+numbers field shares size = no1 field or no2 shares or no3 size
+
+-- 4 to 6, of what is read and of what is written
+unfoldable pub buffers : ℕ → ℕ → List ℕ → ℕ → ℕ → Told
+buffers field wanted input target length′ = no4 wanted (length input) or no5 target length′ or no6 field input

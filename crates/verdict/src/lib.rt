@@ -1,0 +1,260 @@
+// What the checks of the calls have in common: 01's table of refusals, with the number and detail of each, the checks 1 to 9, and how checks
+// follow each other. Stands on field. Nothing lent is written, and bytes are looked at only where the length is right.
+ghost use mathlib.Core.Path.{_≡_};
+ghost use mathlib.Core.List.{[], _∷_};
+ghost use Rattle.verdict.specs.Told.{line, when, refused, _or_};
+ghost use Rattle.verdict.specs.Refusals.{paper, reportOf, outside, firstPlace, tooLarge, zeroDraw, no1, no2, no3, no4, no5, no6, no7, no8, no7step, no8step, no9, numbers, buffers};
+ghost use Rattle.verdict.specs.Code.Verdicts.{told};
+ghost use Rattle.verdict.specs.Code.Scan.{someBits};
+
+// 01's table of refusals, with each one's detail.
+pub enum Refusal {
+    // 1: the field's number
+    Field(u64),
+    // 2: the number of shares
+    Shares(u64),
+    // 3: the size
+    Size(u64),
+    // 4 and 5: the length wanted
+    Input(usize),
+    Target(usize),
+    // 6: the first place
+    Entry(usize),
+    // 7 and 8: the length wanted
+    MaskTape(usize),
+    NonzeroTape(usize),
+    // 9: the first place
+    ZeroDraw(usize),
+    // 10 and 11
+    OffList,
+    Ended,
+    // 12: j
+    ZeroPivot(u64),
+}
+
+// A refusal as numbers: 01's number, and its detail; what the detail has not is 0.
+pub struct Report {
+    pub number: u64,
+    pub a: u64,
+    pub b: u64,
+    pub c: u64,
+}
+
+fn with_detail(number: u64, a: u64) -> Report
+    ensures { λ r. ⌜ r ≡ reportOf (line number (a ∷ [])) ⌝ }
+{
+    Report {
+        number,
+        a,
+        b: 0,
+        c: 0,
+    }
+}
+
+impl Refusal {
+    // The paper's number of a refusal, and its detail: all that prints or hands on a refusal asks here.
+    pub fn report(self) -> Report
+        ensures { λ r. ⌜ r ≡ reportOf (paper self) ⌝ }
+    {
+        match self {
+            Refusal::Field(q) => with_detail(1, q),
+            Refusal::Shares(n) => with_detail(2, n),
+            Refusal::Size(m) => with_detail(3, m),
+            Refusal::Input(wanted) => with_detail(4, wanted as u64),
+            Refusal::Target(wanted) => with_detail(5, wanted as u64),
+            Refusal::Entry(place) => with_detail(6, place as u64),
+            Refusal::MaskTape(wanted) => with_detail(7, wanted as u64),
+            Refusal::NonzeroTape(wanted) => with_detail(8, wanted as u64),
+            Refusal::ZeroDraw(place) => with_detail(9, place as u64),
+            Refusal::OffList => with_detail(10, 0),
+            Refusal::Ended => with_detail(11, 0),
+            Refusal::ZeroPivot(j) => with_detail(12, j),
+        }
+    }
+}
+
+pub enum Verdict {
+    Pass,
+    Refuse(Refusal),
+}
+
+// The first verdict, or the second where the first passes.
+pub fn or_else(v: Verdict, w: Verdict) -> Verdict
+    ensures { λ r. ⌜ told r ≡ told v or told w ⌝ }
+{
+    match v {
+        Verdict::Pass => w,
+        Verdict::Refuse(_) => v,
+    }
+}
+
+// r where the test holds.
+pub fn refuse_if(applies: bool, r: Refusal) -> Verdict
+    ensures { λ v. ⌜ told v ≡ when applies (refused (paper r)) ⌝ }
+{
+    if applies {
+        Verdict::Refuse(r)
+    } else {
+        Verdict::Pass
+    }
+}
+
+pub fn is_outside(low: u64, high: u64, x: u64) -> bool
+    ensures { λ r. ⌜ r ≡ outside low high x ⌝ }
+{
+    x < low || high < x
+}
+
+// ---- 1 to 9
+
+pub fn no1(field: u64) -> Verdict
+    ensures { λ r. ⌜ told r ≡ no1 field ⌝ }
+{
+    refuse_if(field != 16 && field != 256, Refusal::Field(field))
+}
+
+// shares below 2 or above 4
+pub fn no2(shares: u64) -> Verdict
+    ensures { λ r. ⌜ told r ≡ no2 shares ⌝ }
+{
+    refuse_if(is_outside(2, 4, shares), Refusal::Shares(shares))
+}
+
+// size below 1 or above 96
+pub fn no3(size: u64) -> Verdict
+    ensures { λ r. ⌜ told r ≡ no3 size ⌝ }
+{
+    refuse_if(is_outside(1, 96, size), Refusal::Size(size))
+}
+
+// input table or value list of wrong length
+pub fn no4(wanted: usize, length: usize) -> Verdict
+    ensures { λ r. ⌜ told r ≡ no4 wanted length ⌝ }
+{
+    refuse_if(length != wanted, Refusal::Input(wanted))
+}
+
+// solution or target of wrong length
+pub fn no5(wanted: usize, length: usize) -> Verdict
+    ensures { λ r. ⌜ told r ≡ no5 wanted length ⌝ }
+{
+    refuse_if(length != wanted, Refusal::Target(wanted))
+}
+
+fn is_too_large(f: u64, x: u8) -> bool
+    ensures { λ r. ⌜ r ≡ tooLarge f x ⌝ }
+{
+    f == 16 && 16 <= x
+}
+
+// The bits that some byte has: below 16 where each byte is. Every call looks at the whole table, and here the compiler takes many bytes at
+// once.
+fn some_bits(s: &[u8]) -> u8
+    ensures { λ r. ⌜ r ≡ someBits (now (s .entry)) ⌝ }
+{
+    let mut v: u8 = 0;
+    for i in 0..s.len() {
+        v |= s[i];
+    }
+    v
+}
+
+fn first_too_large(f: u64, s: &[u8]) -> usize
+    ensures { λ r. ⌜ r ≡ firstPlace (tooLarge f) (now (s .entry)) ⌝ }
+{
+    if f == 16 {
+        if some_bits(s) < 16 {
+            return s.len();
+        }
+    }
+    let mut i = 0;
+    while i < s.len() {
+        if is_too_large(f, s[i]) {
+            return i;
+        }
+        i += 1;
+    }
+    i
+}
+
+pub fn no6(f: u64, input: &[u8]) -> Verdict
+    ensures { λ r. ⌜ told r ≡ no6 f (now (input .entry)) ⌝ }
+{
+    let i = first_too_large(f, input);
+    refuse_if(i < input.len(), Refusal::Entry(i))
+}
+
+// mask tape too short
+pub fn no7(wanted: usize, length: usize) -> Verdict
+    ensures { λ r. ⌜ told r ≡ no7 wanted length ⌝ }
+{
+    refuse_if(length < wanted, Refusal::MaskTape(wanted))
+}
+
+// nonzero tape, likewise
+pub fn no8(wanted: usize, length: usize) -> Verdict
+    ensures { λ r. ⌜ told r ≡ no8 wanted length ⌝ }
+{
+    refuse_if(length < wanted, Refusal::NonzeroTape(wanted))
+}
+
+// step: not the exact length
+pub fn no7step(wanted: usize, length: usize) -> Verdict
+    ensures { λ r. ⌜ told r ≡ no7step wanted length ⌝ }
+{
+    refuse_if(length != wanted, Refusal::MaskTape(wanted))
+}
+
+// likewise
+pub fn no8step(wanted: usize, length: usize) -> Verdict
+    ensures { λ r. ⌜ told r ≡ no8step wanted length ⌝ }
+{
+    refuse_if(length != wanted, Refusal::NonzeroTape(wanted))
+}
+
+fn is_zero_draw(f: u64, x: u8) -> bool
+    ensures { λ r. ⌜ r ≡ zeroDraw f x ⌝ }
+{
+    field::draw(f, x) == 0
+}
+
+fn first_zero_draw(f: u64, s: &[u8]) -> usize
+    ensures { λ r. ⌜ r ≡ firstPlace (zeroDraw f) (now (s .entry)) ⌝ }
+{
+    let mut i = 0;
+    while i < s.len() {
+        if is_zero_draw(f, s[i]) {
+            return i;
+        }
+        i += 1;
+    }
+    i
+}
+
+pub fn no9(f: u64, draws: &[u8]) -> Verdict
+    ensures { λ r. ⌜ told r ≡ no9 f (now (draws .entry)) ⌝ }
+{
+    let i = first_zero_draw(f, draws);
+    refuse_if(i < draws.len(), Refusal::ZeroDraw(i))
+}
+
+// ---- how they follow each other
+
+// 1 to 3
+pub fn numbers(field: u64, shares: u64, size: u64) -> Verdict
+    ensures { λ r. ⌜ told r ≡ numbers field shares size ⌝ }
+{
+    let v = or_else(no1(field), no2(shares));
+    or_else(v, no3(size))
+}
+
+// 4 to 6, of what is read and of what is written
+pub fn buffers(f: u64, wanted: usize, input: &[u8], target: usize, length: usize) -> Verdict
+    ensures { λ r. ⌜ told r ≡ buffers f wanted (now (input .entry)) target length ⌝ }
+{
+    let v = or_else(no4(wanted, input.len()), no5(target, length));
+    let Verdict::Pass = v else {
+        return v;
+    };
+    no6(f, input)
+}
