@@ -4,8 +4,7 @@ use mathlib.Core.List.{List, [], _∷_, map}
 use mathlib.Core.Path.{_≡_, refl}
 use Prim.Native.Nat.{ℕ}
 use Prim.Native.String.{String}
-use Rattle.sharing.specs.Rules.{folds}
-use Rattle.table.specs.Costs.{flagCost, mixCost, checkCost, scaleCost, scaleNonzero, clearCost, openCost}
+use Rattle.table.specs.Costs.{mixCost, checkCost, scaleCost, scaleNonzero, clearCost, openCost}
 use Rattle.course.specs.StepList.{each, column, columns, openings, stepList, maskCost, nonzeroCost, sumOver, sums}
 use Rattle.verdict.specs.Told.{_or_}
 use Rattle.verdict.specs.Refusals.{outside, no1, no2, no3, numbers}
@@ -13,6 +12,8 @@ use Rattle.verdict.specs.Calls.{call}
 use Rattle.solver.specs.Calls.{countsCall}
 use Rattle.desk_line.specs.Text.{ascii, spelled, decimal}
 use Rattle.desk_line.specs.Line.{refusedLine, countsLine, deskLine}
+use Rattle.sharing.specs.Rules.{inversionDraws}
+use Rattle.flag.specs.Flag.{folds, foldDraws}
 
 pub record Row : Type 0 where
   pub input : List ℕ
@@ -48,5 +49,5 @@ rows =
     ∷ []
 
 pub examples : map (λ (r : Row). deskLine (r .input)) rows ≡ map (λ (r : Row). ascii (r .line)) rows
-unfolding rows ascii spelled decimal refusedLine countsLine deskLine call countsCall outside no1 no2 no3 numbers _or_ folds flagCost mixCost checkCost scaleCost scaleNonzero clearCost openCost each column columns openings stepList maskCost nonzeroCost sumOver sums
+unfolding rows ascii spelled decimal refusedLine countsLine deskLine call countsCall outside no1 no2 no3 numbers _or_ folds foldDraws inversionDraws mixCost checkCost scaleCost scaleNonzero clearCost openCost each column columns openings stepList maskCost nonzeroCost sumOver sums
 examples = refl

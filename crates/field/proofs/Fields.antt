@@ -10,7 +10,7 @@ use lib.Bits.{bitXor, xor-mod}
 use lib.ListN.{getD}
 use lib.Dec.{T, eqb, eqb→eq, ltb, ltb→lt, lit<}
 use Rattle.field.specs.Poly.{times, left, product}
-use Rattle.field.specs.Field.{Ops, Ring, Field, pick, sub, inv, binary, bitwise, fieldOf, F16, F256}
+use Rattle.field.specs.Field.{Ops, Ring, Field, pick, sub, inv, binary, bitwise, Binary, fieldOf, width, F16, F256}
 use Rattle.field.proofs.Linear.{both, both-left, both-right, all, all-at}
 use Rattle.field.proofs.Inverses.{mul-left, inv-unique, inv-zero}
 use Rattle.field.proofs.Product.{Modulus, closed?, one?, comm?, assoc?}
@@ -110,46 +110,31 @@ pub field-of : (f : ℕ) → Field (fieldOf f)
 unfolding fieldOf
 field-of f = fields (eqb f 16)
 
+binaries : (t : Bool) → (m : ℕ) × (pick t F16 F256 ≡ binary (pick t 4 8) m)
+unfolding F16 F256
+binaries true = (19, refl)
+binaries false = (283, refl)
+
+pub binary-of : (f : ℕ) → Binary f
+unfolding fieldOf width
+binary-of f = let w = binaries (eqb f 16) in record { modulus = w .0; is = w .1 }
+
 -- sum and difference are both exclusive or
 sub-binary : (w m a b : ℕ) → sub (binary w m) a b ≡ binary w m .add a b
 sub-binary w m a b =
     xor-mod a (b % 2 ^ w) w ∙ ap (bitXor (a % 2 ^ w)) (mod-mod b (2 ^ w)) ∙ sym (xor-mod a b w)
 
-sub-adds : (t : Bool) (a b : ℕ) → sub (pick t F16 F256) a b ≡ pick t F16 F256 .add a b
-unfolding F16 F256
-sub-adds true = sub-binary 4 19
-sub-adds false = sub-binary 8 283
+module _ {f : ℕ} (B : Binary f) where
+  pub sub-add : (a b : ℕ) → sub (fieldOf f) a b ≡ fieldOf f .add a b
+  sub-add a b = rw (B .is) (sub-binary (width f) (B .modulus) a b)
 
-pub sub-add : (f a b : ℕ) → sub (fieldOf f) a b ≡ fieldOf f .add a b
-unfolding fieldOf
-sub-add f = sub-adds (eqb f 16)
+  pub add-xor : (a b : ℕ) → fieldOf f .add a b ≡ bitXor a b % fieldOf f .q
+  add-xor a b = rw (B .is) refl
 
-adds : (t : Bool) (a b : ℕ) → pick t F16 F256 .add a b ≡ bitXor a b % pick t F16 F256 .q
-unfolding F16 F256
-adds true a b = refl
-adds false a b = refl
+  -- exclusive or respects what its sides leave modulo q
+  pub xor-same : (a b c d : ℕ) → a % fieldOf f .q ≡ c % fieldOf f .q → b % fieldOf f .q ≡ d % fieldOf f .q
+      → bitXor a b % fieldOf f .q ≡ bitXor c d % fieldOf f .q
+  xor-same a b c d = rw (B .is) (λ x y. xor-mod a b (width f) ∙ ap₂ bitXor x y ∙ sym (xor-mod c d (width f)))
 
-pub add-xor : (f a b : ℕ) → fieldOf f .add a b ≡ bitXor a b % fieldOf f .q
-unfolding fieldOf
-add-xor f = adds (eqb f 16)
-
--- exclusive or respects what its sides leave modulo q
-xors : (t : Bool) (a b c d : ℕ) → a % pick t F16 F256 .q ≡ c % pick t F16 F256 .q → b % pick t F16 F256 .q ≡ d % pick t F16 F256 .q
-    → bitXor a b % pick t F16 F256 .q ≡ bitXor c d % pick t F16 F256 .q
-unfolding F16 F256
-xors true a b c d x y = xor-mod a b 4 ∙ ap₂ bitXor x y ∙ sym (xor-mod c d 4)
-xors false a b c d x y = xor-mod a b 8 ∙ ap₂ bitXor x y ∙ sym (xor-mod c d 8)
-
-pub xor-same : (f a b c d : ℕ) → a % fieldOf f .q ≡ c % fieldOf f .q → b % fieldOf f .q ≡ d % fieldOf f .q
-    → bitXor a b % fieldOf f .q ≡ bitXor c d % fieldOf f .q
-unfolding fieldOf
-xor-same f = xors (eqb f 16)
-
-bitwises : (t : Bool) → Ring (bitwise (pick t F16 F256))
-unfolding F16 F256
-bitwises true = bitwise-ring 4 19
-bitwises false = bitwise-ring 8 283
-
-pub bitwise-of : (f : ℕ) → Ring (bitwise (fieldOf f))
-unfolding fieldOf
-bitwise-of f = bitwises (eqb f 16)
+  pub bitwise-of : Ring (bitwise (fieldOf f))
+  bitwise-of = rw (B .is) (bitwise-ring (width f) (B .modulus))

@@ -88,6 +88,11 @@ fieldOf f = pick (eqb f 16) F16 F256
 unfoldable pub width : ℕ → ℕ
 width f = pick (eqb f 16) 4 8
 
+-- a field of polynomials whose coefficients are bits. What holds of exclusive or alone is said of these, and both of 01's are
+pub record Binary (f : ℕ) : Type 0 where
+  pub modulus : ℕ
+  pub is : fieldOf f ≡ binary (width f) modulus
+
 -- the same sums, with bitwise and for the product: a ring, whose one is the word of ones
 unfoldable pub bitwise : Ops → Ops
 bitwise F =

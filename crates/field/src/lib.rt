@@ -1,6 +1,7 @@
-// The fields F16 and F256: sum, difference, product, inverse, and the draw of a tape's byte.
+// The fields F16 and F256: sum, difference, product, inverse, the element that a byte counts as, and the draw of a tape's byte.
 // The ground of the map: it stands on nothing. An operation takes any bytes; a byte of 16 or more counts in F16 as what it leaves.
 ghost use mathlib.Core.Path.{_≡_};
+ghost use Prim.Native.Nat.{_%_};
 ghost use Rattle.field.specs.Field.{F16, F256, inv, fieldOf, sub, draw, RowOf};
 
 const MUL16: [[u8; 16]; 16] = [
@@ -293,7 +294,7 @@ pub fn row16(a: u8) -> [u8; 16]
 }
 
 // The product of two elements by shifting and adding, with no branch and no table, where both may be secret: p + x·y is the product at each turn.
-pub fn shift16(a: u8, b: u8) -> u8
+fn shift16(a: u8, b: u8) -> u8
     ensures { λ r. ⌜ r ≡ F16 .mul a b ⌝ }
 {
     let mut p: u8 = 0;
@@ -310,7 +311,7 @@ pub fn shift16(a: u8, b: u8) -> u8
 }
 
 // The same for F256.
-pub fn mul256(a: u8, b: u8) -> u8
+fn mul256(a: u8, b: u8) -> u8
     ensures { λ r. ⌜ r ≡ F256 .mul a b ⌝ }
 {
     let mut p: u8 = 0;
@@ -355,6 +356,13 @@ pub fn sub(f: u64, a: u8, b: u8) -> u8
     add(f, a, b)
 }
 
+// The product, where both factors may be secret.
+pub fn mul(f: u64, a: u8, b: u8) -> u8
+    ensures { λ r. ⌜ r ≡ fieldOf f .mul a b ⌝ }
+{
+    if f == 16 { shift16(a, b) } else { mul256(a, b) }
+}
+
 // The inverse; 0 at 0, which has none.
 pub fn inverse(f: u64, a: u8) -> u8
     ensures { λ r. ⌜ r ≡ inv (fieldOf f) a ⌝ }
@@ -362,8 +370,16 @@ pub fn inverse(f: u64, a: u8) -> u8
     if f == 16 { inv16(a) } else { inv256(a) }
 }
 
+// The element that a byte counts as.
+pub fn reduce(f: u64, x: u8) -> u8
+    ensures { λ r. ⌜ r ≡ x % fieldOf f .q ⌝ }
+{
+    if f == 16 { x % 16 } else { x }
+}
+
+// The draw that a byte of a tape is.
 pub fn draw(f: u64, byte: u8) -> u8
     ensures { λ r. ⌜ r ≡ draw (fieldOf f) byte ⌝ }
 {
-    if f == 16 { byte % 16 } else { byte }
+    reduce(f, byte)
 }

@@ -10,7 +10,7 @@ use lib.Dec.{eqb}
 use borrow.Author.Tests.{eq-eqb, ne-eqb}
 use Rattle.field.specs.Field.{pick, fieldOf}
 use Rattle.sharing.specs.Rules.{drawAt}
-use Rattle.sharing.specs.Lists.{flagOf}
+use Rattle.flag.specs.Flag.{flagOf}
 use Rattle.table.specs.Costs.{scaleNonzero}
 use Rattle.table.specs.Layout.{tableBytes}
 use Rattle.table.specs.Steps.{lift}

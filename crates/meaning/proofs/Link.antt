@@ -12,7 +12,7 @@ use borrow.Author.Tests.{eq-eqb, ne-eqb}
 use Rattle.field.specs.Field.{pick, fieldOf}
 use Rattle.field.proofs.Fields.{field-of}
 use Rattle.sharing.specs.Rules.{drawAt}
-use Rattle.sharing.specs.Lists.{flagOf}
+use Rattle.flag.specs.Flag.{flagOf}
 use Rattle.table.specs.Layout.{tableBytes, entry, Place}
 use Rattle.table.specs.Steps.{mix, check, scale, clear, opens, lift}
 use Rattle.table.specs.Values.{value}

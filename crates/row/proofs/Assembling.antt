@@ -8,7 +8,7 @@ use native.Mathlib.Nat.{suc-mul, mul-le-mul-right, add-comm, mod-lt, mod-mod, mo
 use lib.Bits.{bitXor}
 use lib.ListN.{length, getD, take, drop}
 use lib.Seq.{getD-take, getD-drop}
-use Rattle.field.specs.Field.{fieldOf, width}
+use Rattle.field.specs.Field.{Binary, fieldOf, width}
 use Rattle.sharing.specs.Run.{before, pairs}
 use Rattle.sharing.specs.Rules.{drawAt, crossed, productOver, product}
 use Rattle.row.specs.Spread.{spreadAll}
@@ -30,7 +30,7 @@ use Rattle.row.proofs.Cells.{in-block, byte-in-block, block-there, own-
 share-of : (n x s : ℕ) → s < n → (x * n + s) % n ≡ s
 share-of n x s h = ap (λ (y : ℕ). y % n) (add-comm (x * n) s) ∙ add-mul-mod-self-right s x n ∙ mod-eq-of-lt h
 
-module _ (f n columns turns r j blocks e wide w : ℕ) (ds a row c m k : List ℕ)
+module _ {f : ℕ} (B : Binary f) (n columns turns r j blocks e wide w : ℕ) (ds a row c m k : List ℕ)
     (few : 1 ≤ n) (long : 1 ≤ r) (room : (width f - 1) * r + r ≤ length m) (fits : turns * n ≤ r)
     (hj : 1 ≤ j) (again : j < turns) (he : 1 ≤ e)
     (all-blocks : columns * n ≤ blocks * (j * n)) (blocks-in : blocks * (j * n) ≤ w)
@@ -132,13 +132,13 @@ module _ (f n columns turns r j blocks e wide w : ℕ) (ds a row c m k : List �
               let which : q % n ≡ s = share-of n (u % e) s hs in
               let there : q < e * n = byte-in-block n e u s he hs in
               ap (λ (y : ℕ). y % fieldOf f .q) (byte u s hu hs)
-              ∙ gathered-sum f n (e * n) w D k (u * n + s) q s (Z u) (P u) hs
+              ∙ gathered-sum B n (e * n) w D k (u * n + s) q s (Z u) (P u) hs
               (own-term n w columns C D Z P T own pair nothing joins near far u s hu hs)
               (λ i hi. first-term n w columns C D Z P T own pair nothing joins near far u s i hu hs hi)
               (λ i hi. second-term n w columns C D Z P T own pair nothing joins near far u s i hu hs hi)
               (λ d l g. chooses d q (omega arith) there ∙ later-chosen n d q l (omega arith))
               (λ d l g. chooses d q g there ∙ later-left n d q (omega arith))
-              ∙ share-law f n (drawAt (fieldOf f) (drop (u * pairs n) ds)) (Z u) (P u)
+              ∙ share-law B n (drawAt (fieldOf f) (drop (u * pairs n) ds)) (Z u) (P u)
               (λ x h. ap (λ (y : ℕ). y % fieldOf f .q) (sym (getD-drop (u * pairs n) ds x 0)) ∙ sym (mod-mod _ (fieldOf f .q))) s hs
               ∙ ap (λ (y : ℕ). getD (productOver (fieldOf f) (drawAt (fieldOf f) (drop (u * pairs n) ds)) (P u) y) s 0 % fieldOf f .q) (sym shares);
         }

@@ -10,7 +10,7 @@ use native.Mathlib.Nat.{mod-mod}
 use lib.Bits.{bitXor, bitAnd, and-mask, and-zero-r, xor-zero-r}
 use lib.Dec.{eqb}
 use lib.ListN.{getD}
-use Rattle.field.specs.Field.{pick, fieldOf, F16, F256}
+use Rattle.field.specs.Field.{pick, Binary, fieldOf, F16, F256}
 use Rattle.field.proofs.Fields.{xor-same}
 use Rattle.sharing.specs.Run.{run, before}
 use Rattle.sharing.proofs.Pairs.{run-holds}
@@ -24,7 +24,7 @@ unfolding F16 F256
 bytes true a = ap (λ (x : ℕ). x % 16) (and-mask a 8) ∙ omega arith
 bytes false a = ap (λ (x : ℕ). x % 256) (and-mask a 8) ∙ mod-mod a 256
 
-module _ (f : ℕ) where
+module _ {f : ℕ} (B : Binary f) where
   -- a byte of ones chooses all of the other
   byte-same : (a : ℕ) → bitAnd a 255 % fieldOf f .q ≡ a % fieldOf f .q
   unfolding fieldOf
@@ -63,7 +63,7 @@ module _ (f : ℕ) where
         | no b ↦
             let j : ℕ = i - (n - 1 - s) in
             let e : suc i - (n - 1 - s) ≡ suc j = omega arith in
-            rw (taken i j v (omega arith) (omega arith), e) (xor-same f v _ _ _ r (byte-same (pairSum n Z P s j)))
+            rw (taken i j v (omega arith) (omega arith), e) (xor-same B v _ _ _ r (byte-same (pairSum n Z P s j)))
       ]
 
       pub gathered-sum : gathered n l w c k o q % fieldOf f .q ≡ shareSum n Z P s % fieldOf f .q

@@ -9,7 +9,7 @@ use native.Mathlib.Nat.{mod-mod}
 use lib.Bits.{bitXor, xor-comm}
 use lib.ListN.{length, getD, set, length-set}
 use lib.Seq.{getD-set-same, getD-set-other}
-use Rattle.field.specs.Field.{Ring, fieldOf}
+use Rattle.field.specs.Field.{Ring, Binary, fieldOf}
 use Rattle.field.proofs.Fields.{field-of, sub-add, add-xor, xor-same}
 use Rattle.field.proofs.Xor.{xor-assoc}
 use Rattle.sharing.specs.Run.{run, before, pairs, pairTurn, pairsOf, overPairs, tab}
@@ -40,14 +40,14 @@ draws-last n Z P s =
     ap (joins (pairSum n Z P s) s) (xor-comm d (P s s)) ∙ joins-xor (pairSum n Z P s) s (P s s) d ∙ xor-comm p d
     ∙ sym (joins-xor (λ v. Z (before n s + v)) (n - suc s) 0 p)
 
-module _ (f n : ℕ) (Z Z' : ℕ → ℕ) (P : ℕ → ℕ → ℕ) (hz : (k : ℕ) → k < pairs n → Z' k % fieldOf f .q ≡ Z k % fieldOf f .q) (s : ℕ) (hs : s < n) where
+module _ {f : ℕ} (B : Binary f) (n : ℕ) (Z Z' : ℕ → ℕ) (P : ℕ → ℕ → ℕ) (hz : (k : ℕ) → k < pairs n → Z' k % fieldOf f .q ≡ Z k % fieldOf f .q) (s : ℕ) (hs : s < n) where
   R : Ring (fieldOf f)
   R = field-of f .ring
 
   -- exclusive or, and the field's sum
   add-same : (a b c d : ℕ) → a % fieldOf f .q ≡ c % fieldOf f .q → b % fieldOf f .q ≡ d % fieldOf f .q → bitXor a b % fieldOf f .q ≡ fieldOf f .add c d % fieldOf f .q
   add-same a b c d x y =
-      xor-same f a b c d x y ∙ sym (mod-mod (bitXor c d) (fieldOf f .q)) ∙ ap (λ (z : ℕ). z % fieldOf f .q) (sym (add-xor f c d))
+      xor-same B a b c d x y ∙ sym (mod-mod (bitXor c d) (fieldOf f .q)) ∙ ap (λ (z : ℕ). z % fieldOf f .q) (sym (add-xor B c d))
 
   -- n shares, of which share s leaves what x does
   record Leaves (x : ℕ) (y : List ℕ) : Type 0 where
@@ -65,7 +65,7 @@ module _ (f n : ℕ) (Z Z' : ℕ → ℕ) (P : ℕ → ℕ → ℕ) (hz : (k : �
       }
 
   sub-hits : {x : ℕ} (i v w : ℕ) (y : List ℕ) → i ≡ s → v % fieldOf f .q ≡ w % fieldOf f .q → Leaves x y → Leaves (bitXor x v) (subAt (fieldOf f) i w y)
-  sub-hits i v w y e h H = rw (sub-add f (getD y i 0) w) (add-hits i v w y e h H)
+  sub-hits i v w y e h H = rw (sub-add B (getD y i 0) w) (add-hits i v w y e h H)
 
   turn-keeps : (k i j : ℕ) → (s ≡ i → ⊥) → (s ≡ j → ⊥) → {x : ℕ} (y : List ℕ) → Leaves x y → Leaves x (productTurn (fieldOf f) Z P k i j y)
   unfolding productTurn
@@ -110,9 +110,9 @@ module _ (f n : ℕ) (Z Z' : ℕ → ℕ) (P : ℕ → ℕ → ℕ) (hz : (k : �
   unfolding productOver overPairs run
   share-law =
       let A : ℕ → ℕ = λ i. joins (pairSum n Z' P s) i (P s s) in
-      let B : ℕ = joins (λ v. Z' (before n s + v)) (n - suc s) (A s) in
+      let E : ℕ = joins (λ v. Z' (before n s + v)) (n - suc s) (A s) in
       ap (λ (x : ℕ). x % fieldOf f .q) (draws-last n Z' P s)
-      ∙ run-holds (λ i y. (i ≤ s → Leaves (A i) y) × (s < i → Leaves B y)) (pairsOf (productTurn (fieldOf f) Z P) n) n
+      ∙ run-holds (λ i y. (i ≤ s → Leaves (A i) y) × (s < i → Leaves E y)) (pairsOf (productTurn (fieldOf f) Z P) n) n
       (λ i hi y H. (
         λ g. row-joins i g y (H .0 (omega arith)),
         λ g. elim (ℕ-discrete i s) [

@@ -10,7 +10,7 @@ use lib.Seq.{getD-set-same, getD-set-other}
 use Rattle.sharing.specs.Run.{run, before, pairs, pairTurn, pairsOf, overPairs}
 use Rattle.sharing.proofs.Loops.{run-length}
 use Rattle.sharing.proofs.Pairs.{run-holds, over-length}
-use Rattle.sharing.specs.Passes.{xorAt}
+use Rattle.sharing.specs.Code.Bytes.{xorAt}
 use Rattle.row.specs.Spread.{spreadTurn, spreadColumn, spreadAll}
 use Rattle.row.specs.Shares.{ownDraws}
 use Rattle.row.proofs.Places.{place-in, same-row}

@@ -5,7 +5,7 @@ use mathlib.Core.List.{List}
 use lib.Bits.{bitXor}
 use lib.ListN.{getD}
 use Rattle.sharing.specs.Run.{run}
-use Rattle.sharing.specs.Passes.{xorAt}
+use Rattle.sharing.specs.Code.Bytes.{xorAt}
 
 -- y times what stands at g of m, whose doubles stand r places on, and so on for k bits of y
 unfoldable pub term : List ℕ → ℕ → ℕ → ℕ → ℕ → ℕ

@@ -4,7 +4,7 @@ use Prim.Native.Nat.{ℕ, _+_, _-_, _*_}
 use mathlib.Core.List.{List}
 use lib.ListN.{getD}
 use Rattle.sharing.specs.Run.{run, pairs, overPairs}
-use Rattle.sharing.specs.Passes.{xorAt}
+use Rattle.sharing.specs.Code.Bytes.{xorAt}
 
 -- pair number k, i < j, of the column whose first byte is at a and whose first draw is z's number b
 unfoldable pub spreadTurn : ℕ → List ℕ → ℕ → ℕ → ℕ → ℕ → ℕ → List ℕ → List ℕ

@@ -383,7 +383,7 @@ fn reduced(f: u64, a: &mut [u8], factor: &[u8])
     ensures { λ r. ⌜ now (a .exit) ≡ tab (length (now (factor .entry))) (drawAt (fieldOf f) (now (factor .entry))) ⌝ }
 {
     for s in 0..a.len() {
-        a[s] = field::draw(f, factor[s]);
+        a[s] = field::reduce(f, factor[s]);
     }
 }
 

@@ -2,19 +2,19 @@
 -- So a rule does the same on the exact part of a tape as on a longer one.
 -- Assumes nothing.
 use mathlib.Core.Path.{_≡_, refl, sym, ap, ap₂, _∙_}
-use Prim.Native.Nat.{ℕ, _+_, _-_, _*_, _/_, _%_, _^_, _<_, _≤_}
+use Prim.Native.Nat.{ℕ, _+_, _-_, _*_, _%_, _<_, _≤_}
 use mathlib.Core.List.{List, [], _∷_, _++_}
 use native.Mathlib.Omega.{arith}
 use native.Mathlib.Nat.{le-refl}
 use lib.ListN.{length, take, drop, List·getD-append}
 use lib.Seq.{getD-take, getD-drop}
-use Rattle.field.specs.Field.{Ops, fieldOf, width, inv}
+use Rattle.field.specs.Field.{Ops, inv}
 use Rattle.sharing.specs.Run.{tab, pairs, overPairs}
-use Rattle.sharing.specs.Rules.{sum, drawAt, refreshTurn, refresh, productTurn, productOver, product, andOf, pairRefreshTurn, pairRefresh, opening, shifted, fold, foldDraws, foldTurn, folds, lowBits, complemented, zeroFlag, scaled, blindTurn, blinded, blindedValue, factors, inversionDraws}
+use Rattle.sharing.specs.Rules.{sum, drawAt, refreshTurn, refresh, productTurn, productOver, product, pairRefreshTurn, pairRefresh, opening, scaled, blindTurn, blinded, blindedValue, factors, inversionDraws}
 use Rattle.sharing.specs.Lists.{SameDraws}
 use Rattle.sharing.proofs.Loops.{run-ext, taken-room}
 use Rattle.sharing.proofs.Pairs.{tab-ext, over-ext, run-same}
-use Rattle.sharing.proofs.Lengths.{shifted-length, scaled-length, complemented-length, foldTurn-length, blindTurn-length, blinded-length}
+use Rattle.sharing.proofs.Lengths.{scaled-length, blindTurn-length, blinded-length}
 
 -- whatever the draws and the products of single shares come from
 pub productOver-ext : (F : Ops) {Z W : ℕ → ℕ} {P Q : ℕ → ℕ → ℕ} (n : ℕ) → ((k : ℕ) → k < pairs n → Z k ≡ W k)
@@ -69,17 +69,6 @@ module _ (F : Ops) where
   unfolding product
   product-draws a b d = productOver-ext F (length a) (d .at) (λ i j hi hj. refl)
 
-  pub andOf-draws : {ds es : List ℕ} (a b : List ℕ) → SameDraws F (pairs (length a)) ds es → andOf F ds a b ≡ andOf F es a b
-  unfolding andOf
-  andOf-draws a b d = productOver-ext F (length a) (d .at) (λ i j hi hj. refl)
-
-  pub fold-draws : (h : ℕ) {ds es : List ℕ} (s : List ℕ) → SameDraws F (foldDraws (length s)) ds es → fold F h ds s ≡ fold F h es s
-  unfolding fold foldDraws
-  fold-draws h {ds} {es} s d =
-      let l : length (shifted F h s) ≡ length s = shifted-length F h s in
-      ap (andOf F (drop (length s - 1) ds) s) (refresh-draws (shifted F h s) (same-fewer (omega arith) d))
-      ∙ andOf-draws s (refresh F es (shifted F h s)) (same-drop (length s - 1) (pairs (length s)) (le-refl _) d)
-
   -- ---- Inversion
 
   module _ {nz mz : List ℕ} {ds es : List ℕ} (s : List ℕ) (dz : SameDraws F (length s - 1) nz mz) where
@@ -106,14 +95,3 @@ module _ (F : Ops) where
       unfolding factors
       factors-draws =
           ap₂ (λ (l : List ℕ) (x : ℕ). l ++ (x ∷ [])) (tab-ext (length s - 1) (dz .at)) (ap (inv F) blindedValue-draws)
-
-pub zeroFlag-draws : (f : ℕ) {ds es : List ℕ} (s : List ℕ) → SameDraws (fieldOf f) (folds f * foldDraws (length s)) ds es
-    → zeroFlag f ds s ≡ zeroFlag f es s
-unfolding zeroFlag
-zeroFlag-draws f {ds} {es} s d =
-    ap lowBits
-    (run-same (foldTurn f ds (length s)) (foldTurn f es (length s)) (length s) (folds f) (foldTurn-length f ds (length s))
-    (λ k h t e.
-    fold-draws (fieldOf f) (width f / 2 ^ (k + 1)) t (rw e (same-turn (fieldOf f) k (foldDraws (length s)) h d)))
-    (complemented (fieldOf f) s)
-    (complemented-length (fieldOf f) s))

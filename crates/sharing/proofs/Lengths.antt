@@ -5,9 +5,9 @@ use Prim.Native.Nat.{ℕ, _-_, _<_}
 use mathlib.Core.List.{List}
 use native.Mathlib.Omega.{arith}
 use lib.ListN.{length, length-set, length-map, length-append}
-use Rattle.field.specs.Field.{Ops, fieldOf}
+use Rattle.field.specs.Field.{Ops}
 use Rattle.sharing.specs.Run.{tab}
-use Rattle.sharing.specs.Rules.{refreshTurn, refresh, productTurn, productOver, product, andOf, pairRefreshTurn, pairRefresh, complemented, shifted, fold, foldTurn, folds, lowBits, zeroFlag, scaled, blindTurn, blinded, factors, fourOf}
+use Rattle.sharing.specs.Rules.{refreshTurn, refresh, productTurn, productOver, product, pairRefreshTurn, pairRefresh, scaled, blindTurn, blinded, factors, fourOf}
 use Rattle.sharing.specs.Lists.{joined}
 use Rattle.sharing.proofs.Loops.{run-length}
 use Rattle.sharing.proofs.Pairs.{tab-length, over-length}
@@ -19,10 +19,6 @@ joined-length op s v = tab-length (length s) _
 pub fourOf-length : (fs : List ℕ) → length (fourOf fs) ≡ 4
 unfolding fourOf
 fourOf-length fs = refl
-
-pub lowBits-length : (s : List ℕ) → length (lowBits s) ≡ length s
-unfolding lowBits
-lowBits-length s = length-map s _
 
 module _ (F : Ops) where
   refreshTurn-length : (ds : List ℕ) (k : ℕ) (s : List ℕ) → length (refreshTurn F ds k s) ≡ length s
@@ -47,21 +43,6 @@ module _ (F : Ops) where
   unfolding product
   product-length ds a b = productOver-length _ _ (length a)
 
-  pub andOf-length : (ds a b : List ℕ) → length (andOf F ds a b) ≡ length a
-  unfolding andOf
-  andOf-length ds a b = productOver-length _ _ (length a)
-
-  pub complemented-length : (s : List ℕ) → length (complemented F s) ≡ length s
-  complemented-length s = simp length-set
-
-  pub shifted-length : (h : ℕ) (s : List ℕ) → length (shifted F h s) ≡ length s
-  unfolding shifted
-  shifted-length h s = length-map s _
-
-  pub fold-length : (h : ℕ) (ds s : List ℕ) → length (fold F h ds s) ≡ length s
-  unfolding fold
-  fold-length h ds s = andOf-length _ s _
-
   pub scaled-length : (z : ℕ) (s : List ℕ) → length (scaled F z s) ≡ length s
   unfolding scaled
   scaled-length z s = length-map s _
@@ -77,13 +58,3 @@ module _ (F : Ops) where
   pub factors-length : (nz ds s : List ℕ) → 0 < length s → length (factors F nz ds s) ≡ length s
   unfolding factors
   factors-length nz ds s h = simp (length-append, tab-length) (omega arith)
-
-pub foldTurn-length : (f : ℕ) (ds : List ℕ) (n i : ℕ) (s : List ℕ) → length (foldTurn f ds n i s) ≡ length s
-foldTurn-length f ds n i s = fold-length (fieldOf f) _ _ s
-
-pub zeroFlag-length : (f : ℕ) (ds s : List ℕ) → length (zeroFlag f ds s) ≡ length s
-unfolding zeroFlag
-zeroFlag-length f ds s =
-    lowBits-length _
-    ∙ run-length (foldTurn f ds (length s)) (foldTurn-length f ds (length s)) (folds f) (complemented (fieldOf f) s)
-    ∙ complemented-length (fieldOf f) s

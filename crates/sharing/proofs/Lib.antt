@@ -4,9 +4,6 @@ pub mod Each
 pub mod Rings
 pub mod Lengths
 pub mod Sums
-pub mod Flag
 pub mod Inverting
 pub mod Draws
-pub mod AndPasses
-pub mod Folding
 pub mod Elements

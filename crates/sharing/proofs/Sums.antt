@@ -7,10 +7,9 @@ use mathlib.Core.List.{List, [], _∷_}
 use native.Mathlib.Omega.{arith}
 use native.Mathlib.Nat.{not-suc-le-zero, le-of-suc-le-suc}
 use lib.ListN.{length, getD, length-set}
-use lib.Bits.{bitAnd}
-use Rattle.field.specs.Field.{Ops, Ring, sub, bitwise}
+use Rattle.field.specs.Field.{Ops, Ring, sub}
 use Rattle.sharing.specs.Run.{run, tab, pairTurn, pairsOf, overPairs, before}
-use Rattle.sharing.specs.Rules.{sum, drawAt, addAt, subAt, refreshTurn, refresh, productTurn, productOver, crossed, product, andOf, pairRefreshTurn, pairRefresh, opening, complemented, scaled}
+use Rattle.sharing.specs.Rules.{sum, drawAt, addAt, subAt, refreshTurn, refresh, productTurn, productOver, crossed, product, pairRefreshTurn, pairRefresh, opening, scaled}
 use Rattle.sharing.specs.Lists.{joined}
 use Rattle.sharing.proofs.Rings.{zero-add-lt, add-zero-lt, left-comm, swap4, neg-add, sub-back, neg-sum, neg-zero, mul-zero, add-mul}
 use Rattle.sharing.proofs.Pairs.{tab-length, tab-ext, tab-list, run-holds}
@@ -218,9 +217,6 @@ module _ (F : Ops) (R : Ring F) where
   sum-scaled z [] = sym (mul-zero F R z)
   sum-scaled z (x ∷ s) = ap (F .add (F .mul z x)) (sum-scaled z s) ∙ sym (R .mul-add z x (sum F s))
 
-  pub sum-complemented : (s : List ℕ) → 0 < length s → sum F (complemented F s) ≡ F .add (sum F s) (F .q - 1)
-  sum-complemented s h = sum-addAt 0 (F .q - 1) s h
-
   pub sum-joined-add : (s v : List ℕ) → length v ≡ length s → sum F (joined (F .add) s v) ≡ F .add (sum F s) (sum F v)
   unfolding joined
   sum-joined-add s v e =
@@ -240,14 +236,3 @@ module _ (F : Ops) (R : Ring F) where
   sum-dealt v xs = sub-back F R v (sum F xs)
 
 -- And: the same law, in the ring of words with bitwise and
-sum-bitwise : (F : Ops) (s : List ℕ) → sum (bitwise F) s ≡ sum F s
-unfolding sum bitwise
-sum-bitwise F [] = refl
-sum-bitwise F (x ∷ s) = ap (F .add x) (sum-bitwise F s)
-
-pub sum-andOf : (F : Ops) → Ring (bitwise F) → (ds a b : List ℕ) → length b ≡ length a
-    → sum F (andOf F ds a b) ≡ bitAnd (sum F a) (sum F b) % F .q
-unfolding andOf bitwise productOver productTurn
-sum-andOf F B ds a b e =
-    sym (sum-bitwise F (andOf F ds a b)) ∙ sum-productOver (bitwise F) B (drawAt F ds) a b e
-    ∙ ap₂ (bitwise F .mul) (sum-bitwise F a) (sum-bitwise F b)

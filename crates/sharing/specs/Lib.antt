@@ -1,4 +1,4 @@
 pub mod Run
 pub mod Rules
 pub mod Lists
-pub mod Passes
+pub mod Code

@@ -1,12 +1,11 @@
--- What the laws of the small rules are stated with, besides the rules: sharings joined share by share, the product of a list, the flag of a
--- value, lists of elements, and tapes that agree on their first draws.
+-- What the laws of the small rules are stated with, besides the rules: sharings joined share by share, the product of a list, lists of
+-- elements, and tapes that agree on their first draws.
 -- Assumes nothing.
 use mathlib.Core.Path.{_≡_}
 use Prim.Native.Nat.{ℕ, _<_}
 use mathlib.Core.List.{List, [], _∷_}
 use lib.ListN.{length, getD}
-use lib.Dec.{eqb}
-use Rattle.field.specs.Field.{Ops, pick}
+use Rattle.field.specs.Field.{Ops}
 use Rattle.sharing.specs.Run.{tab}
 use Rattle.sharing.specs.Rules.{drawAt}
 
@@ -18,10 +17,6 @@ joined op s v = tab (length s) (λ i. op (getD s i 0) (getD v i 0))
 unfoldable pub productAll : Ops → List ℕ → ℕ
 productAll F [] = 1
 productAll F (x ∷ fs) = F .mul x (productAll F fs)
-
--- the flag of a value: 1 for 0, and 0 for any other
-unfoldable pub flagOf : ℕ → ℕ
-flagOf v = pick (eqb v 0) 1 0
 
 -- every number of a list is below q: with a field's own q they are elements
 pub record Below (q : ℕ) (s : List ℕ) : Type 0 where

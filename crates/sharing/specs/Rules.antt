@@ -1,12 +1,12 @@
--- 01, "Small rules on sharings". A sharing is the list of its n shares: share s of the paper stands at place s - 1.
+-- 01, "Small rules on sharings", but for And and the Zero flag, which stand in crate flag. A sharing is the list of its n shares: share s of
+-- the paper stands at place s - 1.
 -- F is the field, and ds the part of the mask tape that begins at the rule's own first draw. Where 01 adds a draw to a second share, the
 -- draw is taken from it here: in F16 and F256 that is the same.
 -- Assumes nothing.
-use Prim.Native.Nat.{ℕ, _+_, _-_, _*_, _/_, _%_, _^_}
+use Prim.Native.Nat.{ℕ, _+_, _-_, _*_}
 use mathlib.Core.List.{List, [], _∷_, _++_, map}
 use lib.ListN.{length, getD, set, drop}
-use lib.Dec.{eqb}
-use Rattle.field.specs.Field.{Ops, sub, draw, inv, fieldOf, width, bitwise, pick}
+use Rattle.field.specs.Field.{Ops, sub, draw, inv}
 use Rattle.sharing.specs.Run.{run, tab, pairs, overPairs}
 
 -- the value of a sharing: the sum of its shares
@@ -47,10 +47,6 @@ crossed mul a b i j = mul (getD a i 0) (getD b j 0)
 unfoldable pub product : Ops → List ℕ → List ℕ → List ℕ → List ℕ
 product F ds a b = productOver F (drawAt F ds) (crossed (F .mul) a b) (length a)
 
--- And is the same with bitwise and
-unfoldable pub andOf : Ops → List ℕ → List ℕ → List ℕ → List ℕ
-andOf F ds a b = productOver F (drawAt F ds) (crossed (bitwise F .mul) a b) (length a)
-
 -- Opening (N draws): for i < j in order, draw r, add r to shares i and j; then sum the shares
 unfoldable pub pairRefreshTurn : Ops → List ℕ → ℕ → ℕ → ℕ → List ℕ → List ℕ
 pairRefreshTurn F ds k i j s = subAt F j (drawAt F ds k) (addAt F i (drawAt F ds k) s)
@@ -60,42 +56,6 @@ pairRefresh F ds s = overPairs (pairRefreshTurn F ds) (length s) s
 
 unfoldable pub opening : Ops → List ℕ → List ℕ → ℕ
 opening F ds s = sum F (pairRefresh F ds s)
-
--- Zero flag (f(n-1+N) draws; f = 2 for F16, 3 for F256)
-unfoldable pub folds : ℕ → ℕ
-folds f = pick (eqb f 16) 2 3
-
--- the draws of one fold: a Refresh and an And
-unfoldable pub foldDraws : ℕ → ℕ
-foldDraws n = n - 1 + pairs n
-
-abbrev pub flagDraws : ℕ → ℕ → ℕ
-flagDraws f n = folds f * foldDraws n
-
--- complement all w bits of share 1, that is, add the word of ones
-abbrev pub complemented : Ops → List ℕ → List ℕ
-complemented F s = addAt F 0 (F .q - 1) s
-
--- each share, its w bits, shifted right by h
-unfoldable pub shifted : Ops → ℕ → List ℕ → List ℕ
-shifted F h s = map (λ x. x % F .q / 2 ^ h) s
-
--- t is each share shifted right by h, then refreshed; the sharing becomes And(sharing, t)
-unfoldable pub fold : Ops → ℕ → List ℕ → List ℕ → List ℕ
-fold F h ds s = andOf F (drop (length s - 1) ds) s (refresh F ds (shifted F h s))
-
--- for h = w/2, halving down to 1
-abbrev pub foldTurn : ℕ → List ℕ → ℕ → ℕ → List ℕ → List ℕ
-foldTurn f ds n i s =
-    fold (fieldOf f) (width f / 2 ^ (i + 1)) (drop (i * foldDraws n) ds) s
-
--- at last keep bit 0 of each share
-unfoldable pub lowBits : List ℕ → List ℕ
-lowBits s = map (λ x. x % 2) s
-
-unfoldable pub zeroFlag : ℕ → List ℕ → List ℕ → List ℕ
-zeroFlag f ds s =
-    lowBits (run (foldTurn f ds (length s)) (folds f) (complemented (fieldOf f) s))
 
 -- Inversion of a nonzero value (n-1 nonzero draws, (n-1)²+N mask draws): for s = 1..n-1, take nonzero z_s, multiply every share by z_s, refresh
 unfoldable pub scaled : Ops → ℕ → List ℕ → List ℕ

@@ -7,10 +7,11 @@ use Rattle.field.specs.Poly.{times, left, product as polynomialProduct}
 use Rattle.field.specs.Field.{F16, F256, fieldOf, width, bitwise, inv, inverseBelow}
 use Rattle.sharing.specs.Run.{run, overPairs}
 use Rattle.sharing.specs.Lists.{joined}
-use Rattle.sharing.specs.Rules.{sum, refreshTurn, refresh, productTurn, productOver, product, andOf, pairRefreshTurn, pairRefresh, opening, folds, foldDraws, shifted, fold, lowBits, zeroFlag, scaled, blindTurn, blinded, blindedValue, factors, inversionDraws}
+use Rattle.sharing.specs.Rules.{sum, refreshTurn, refresh, productTurn, productOver, product, pairRefreshTurn, pairRefresh, opening, scaled, blindTurn, blinded, blindedValue, factors, inversionDraws}
+use Rattle.flag.specs.Flag.{andOf, folds, foldDraws, shifted, freshShift, fold, lowBits, zeroFlag}
 use Rattle.table.specs.Layout.{cell, part, put}
 use Rattle.table.specs.Steps.{overColumns, signed, joinTurn, joinRow, joinRows, mix, check, scaleTurn, scaleRow, factorTurn, scaleAll, scale, clear, opens, liftTurn, lift}
-use Rattle.table.specs.Costs.{flagCost, mixCost, checkCost, scaleCost, scaleNonzero, clearCost, openCost}
+use Rattle.table.specs.Costs.{mixCost, checkCost, scaleCost, scaleNonzero, clearCost, openCost}
 use Rattle.course.specs.declared.Order.{Order}
 use Rattle.course.specs.declared.Counts.{Counts}
 use Rattle.course.specs.StepList.{each, column, columns, openings, stepList, maskCost, nonzeroCost, sumOver, sums}
@@ -38,5 +39,5 @@ counted c = c .steps ∷ c .mask ∷ c .nonzero ∷ []
 
 -- says nothing itself: to unfold this name is to unfold all that its line names
 unfoldable pub definitions : Unit {0}
-unfolding F16 F256 fieldOf width bitwise inv inverseBelow polynomialProduct times left run overPairs joined sum refreshTurn refresh productTurn productOver product andOf pairRefreshTurn pairRefresh opening folds foldDraws shifted fold lowBits zeroFlag scaled blindTurn blinded blindedValue factors inversionDraws cell part put overColumns signed joinTurn joinRow joinRows mix check scaleTurn scaleRow factorTurn scaleAll scale clear opens liftTurn lift flagCost mixCost checkCost scaleCost scaleNonzero clearCost openCost each column columns openings stepList maskCost nonzeroCost sumOver sums opened acted walk conclude solved dealtEntry dealTurn dealt gathered
+unfolding F16 F256 fieldOf width bitwise inv inverseBelow polynomialProduct times left run overPairs joined sum refreshTurn refresh productTurn productOver product andOf pairRefreshTurn pairRefresh opening folds foldDraws shifted freshShift fold lowBits zeroFlag scaled blindTurn blinded blindedValue factors inversionDraws cell part put overColumns signed joinTurn joinRow joinRows mix check scaleTurn scaleRow factorTurn scaleAll scale clear opens liftTurn lift mixCost checkCost scaleCost scaleNonzero clearCost openCost each column columns openings stepList maskCost nonzeroCost sumOver sums opened acted walk conclude solved dealtEntry dealTurn dealt gathered
 definitions = tt

@@ -5,7 +5,8 @@ use mathlib.Core.Path.{refl}
 use Prim.Native.Nat.{ℕ, _+_, _*_}
 use lib.ListN.{replicate}
 use Rattle.field.specs.Field.{F16, F256}
-use Rattle.sharing.specs.Rules.{refresh, product, zeroFlag}
+use Rattle.sharing.specs.Rules.{refresh, product}
+use Rattle.flag.specs.Flag.{zeroFlag}
 use Rattle.course.specs.StepList.{stepList, sums}
 use Rattle.walk.specs.declared.Ending.{Ending}
 use Rattle.walk.specs.declared.Ending.the-variants.{Solved, Stopped}

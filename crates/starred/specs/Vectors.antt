@@ -6,7 +6,8 @@ use mathlib.Core.Path.{refl}
 use Prim.Native.Nat.{ℕ, zero, suc, _+_, _*_, _/_, _%_, _^_}
 use lib.ListN.{replicate}
 use Rattle.field.specs.Field.{Ops, F16, F256}
-use Rattle.sharing.specs.Rules.{refresh, pairRefresh, product, andOf, zeroFlag, blinded, blindedValue, factors}
+use Rattle.sharing.specs.Rules.{refresh, pairRefresh, product, blinded, blindedValue, factors}
+use Rattle.flag.specs.Flag.{andOf, zeroFlag}
 use Rattle.course.specs.declared.Order.{Order}
 use Rattle.course.specs.declared.Step.{Step}
 use Rattle.course.specs.declared.Step.the-variants.{Mix, Check, Scale, Clear, Open}

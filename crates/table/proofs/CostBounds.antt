@@ -1,15 +1,14 @@
 -- How many draws a step takes at most: there are four shares or fewer, and 97 columns or fewer.
 -- Assumes nothing.
-use mathlib.Core.Bool.{Bool, true, false}
 use Prim.Native.Nat.{ℕ, _+_, _-_, _*_, _≤_}
 use native.Mathlib.Omega.{arith}
 use native.Mathlib.Nat.{mul-le-mul}
-use lib.Dec.{eqb}
-use Rattle.field.specs.Field.{pick}
 use Rattle.sharing.specs.Run.{pairs}
-use Rattle.sharing.specs.Rules.{folds}
+use Rattle.sharing.specs.Rules.{inversionDraws}
 use Rattle.sharing.proofs.Pairs.{pairs-count}
-use Rattle.table.specs.Costs.{flagCost, mixCost, checkCost, scaleCost, clearCost, openCost}
+use Rattle.flag.specs.Flag.{folds, foldDraws, flagDraws}
+use Rattle.flag.proofs.Folding.{folds-few}
+use Rattle.table.specs.Costs.{mixCost, checkCost, scaleCost, clearCost, openCost}
 
 -- the products of the number of shares
 pub record Few (n : ℕ) : Type 0 where
@@ -26,19 +25,15 @@ few n h =
       pairs-few = omega (arith, pairs-count n);
     }
 
-folds-few : (f : ℕ) → folds f ≤ 3
-unfolding folds
-folds-few f = by (eqb f 16)
-  where
-    by : (b : Bool) → pick {A = ℕ} b 2 3 ≤ 3
-    by true = omega arith
-    by false = omega arith
-
-pub flag-few : (f n : ℕ) → n ≤ 4 → flagCost f n ≤ 27
-unfolding flagCost
+pub flag-few : (f n : ℕ) → n ≤ 4 → flagDraws f n ≤ 27
+unfolding foldDraws
 flag-few f n h =
     let w = few n h in
     mul-le-mul {n₁ = folds f} {m₁ = n - 1 + pairs n} {n₂ = 3} {m₂ = 9} (folds-few f) (omega arith)
+
+pub inversion-few : (n : ℕ) → n ≤ 4 → inversionDraws n ≤ 15
+unfolding inversionDraws
+inversion-few n h = let w = few n h in omega arith
 
 pub clear-few : (n l : ℕ) → n ≤ 4 → l ≤ 97 → clearCost n l ≤ 582
 unfolding clearCost
@@ -55,8 +50,7 @@ check-few f n h = omega (arith, flag-few f n h, few n h .pairs-few)
 pub scale-few : (n l : ℕ) → n ≤ 4 → l ≤ 97 → scaleCost n l ≤ 1179
 unfolding scaleCost
 scale-few n l h k =
-    let w = few n h in
-    omega (arith, mul-le-mul {n₁ = n * (n - 1)} {m₁ = l} {n₂ = 12} {m₂ = 97} (w .product) k)
+    omega (arith, inversion-few n h, mul-le-mul {n₁ = n * (n - 1)} {m₁ = l} {n₂ = 12} {m₂ = 97} (few n h .product) k)
 
 pub open-few : (n : ℕ) → n ≤ 4 → openCost n ≤ 1179
 unfolding openCost

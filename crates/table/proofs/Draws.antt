@@ -9,31 +9,34 @@ use native.Mathlib.Nat.{le-refl, mul-assoc, mul-comm}
 use lib.ListN.{length, drop}
 use Rattle.field.specs.Field.{Ops, fieldOf}
 use Rattle.sharing.specs.Run.{pairs}
-use Rattle.sharing.specs.Rules.{foldDraws, flagDraws, inversionDraws, opening, zeroFlag, scaled}
+use Rattle.sharing.specs.Rules.{inversionDraws, opening, scaled}
 use Rattle.sharing.specs.Lists.{SameDraws, joined}
 use Rattle.sharing.proofs.Loops.{run-ext}
-use Rattle.sharing.proofs.Lengths.{zeroFlag-length, scaled-length}
-use Rattle.sharing.proofs.Draws.{same-fewer, same-drop, same-turn, refresh-draws, product-draws, opening-draws, factors-draws, zeroFlag-draws}
+use Rattle.sharing.proofs.Lengths.{scaled-length}
+use Rattle.sharing.proofs.Draws.{same-fewer, same-drop, same-turn, refresh-draws, product-draws, opening-draws, factors-draws}
+use Rattle.flag.proofs.Draws.{zeroFlag-draws}
+use Rattle.flag.proofs.Lengths.{zeroFlag-length}
+use Rattle.flag.specs.Flag.{flagDraws, zeroFlag}
 use Rattle.table.specs.Layout.{tableBytes, part, put, entry, columnsFrom, rowFrom, putRow, Place}
 use Rattle.table.specs.Steps.{columnTurn, overColumns, signed, joinTurn, joinRow, joinRows, mix, check, scaleTurn, scaleRow, factorTurn, scaleAll, scale, clear, opens}
-use Rattle.table.specs.Costs.{flagCost, mixCost, checkCost, scaleCost, scaleNonzero, clearCost, openCost}
+use Rattle.table.specs.Costs.{mixCost, checkCost, scaleCost, scaleNonzero, clearCost, openCost}
 use Rattle.table.proofs.Parts.{part-most}
 use Rattle.table.proofs.Cells.{entry-length}
 
 -- ---- the paper's numbers are those of the definitions
 
 pub mixCost-is : (f n columns : ℕ) → mixCost f n columns ≡ flagDraws f n + columns * pairs n
-unfolding mixCost flagCost foldDraws
+unfolding mixCost
 mixCost-is f n columns = refl
 
 pub checkCost-is : (f n : ℕ) → checkCost f n ≡ flagDraws f n + pairs n
-unfolding checkCost flagCost foldDraws
+unfolding checkCost
 checkCost-is f n = refl
 
 pub scaleCost-is : (n columns : ℕ) → scaleCost n columns ≡ inversionDraws n + n * (columns * (n - 1))
-unfolding scaleCost inversionDraws
+unfolding scaleCost
 scaleCost-is n columns =
-    ap (λ (x : ℕ). (n - 1) * (n - 1) + pairs n + x) (mul-assoc n (n - 1) columns ∙ ap (λ (x : ℕ). n * x) (mul-comm (n - 1) columns))
+    ap (λ (x : ℕ). inversionDraws n + x) (mul-assoc n (n - 1) columns ∙ ap (λ (x : ℕ). n * x) (mul-comm (n - 1) columns))
 
 -- ---- a row
 

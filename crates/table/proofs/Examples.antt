@@ -7,8 +7,9 @@ use lib.Bits.{bitXor}
 use Rattle.field.specs.Poly.{product as polynomials, times, left}
 use Rattle.field.specs.Field.{inverseBelow, inv, F16, fieldOf, width, bitwise}
 use Rattle.sharing.specs.Run.{run, overPairs}
-use Rattle.sharing.specs.Rules.{sum, refreshTurn, refresh, productTurn, productOver, product, andOf, pairRefreshTurn, pairRefresh, opening, folds, foldDraws, shifted, fold, lowBits, zeroFlag, scaled, blindTurn, blinded, blindedValue, factors, inversionDraws}
+use Rattle.sharing.specs.Rules.{sum, refreshTurn, refresh, productTurn, productOver, product, pairRefreshTurn, pairRefresh, opening, scaled, blindTurn, blinded, blindedValue, factors, inversionDraws}
 use Rattle.sharing.specs.Lists.{joined}
+use Rattle.flag.specs.Flag.{andOf, folds, foldDraws, shifted, freshShift, fold, lowBits, zeroFlag}
 use Rattle.table.specs.Layout.{cell, part, put}
 use Rattle.table.specs.Steps.{overColumns, signed, joinTurn, joinRow, joinRows, mix, check, scaleTurn, scaleRow, factorTurn, scaleAll, scale, clear, opens, liftTurn, lift}
 
@@ -52,5 +53,5 @@ pub examples : (one (dealt (2 ∷ 3 ∷ [])) ≡ 0 ∷ 8 ∷ [])
     × (checks (dealt (0 ∷ 1 ∷ 5 ∷ 1 ∷ 0 ∷ 7 ∷ [])) ≡ 0 ∷ 0 ∷ [])
     × (found (dealt (0 ∷ 1 ∷ 5 ∷ 1 ∷ 0 ∷ 7 ∷ [])) ≡ 7 ∷ 5 ∷ [])
     × (checks (dealt (1 ∷ 2 ∷ 1 ∷ 2 ∷ 4 ∷ 2 ∷ [])) ≡ 0 ∷ 1 ∷ [])
-unfolding dealt masks nonzero one mixed cleared checks found polynomials times left inverseBelow inv F16 fieldOf width bitwise run overPairs sum refreshTurn refresh productTurn productOver product andOf pairRefreshTurn pairRefresh opening folds foldDraws shifted fold lowBits zeroFlag scaled blindTurn blinded blindedValue factors inversionDraws joined cell part put overColumns signed joinTurn joinRow joinRows mix check scaleTurn scaleRow factorTurn scaleAll scale clear opens liftTurn lift
+unfolding dealt masks nonzero one mixed cleared checks found polynomials times left inverseBelow inv F16 fieldOf width bitwise run overPairs sum refreshTurn refresh productTurn productOver product andOf pairRefreshTurn pairRefresh opening folds foldDraws shifted freshShift fold lowBits zeroFlag scaled blindTurn blinded blindedValue factors inversionDraws joined cell part put overColumns signed joinTurn joinRow joinRows mix check scaleTurn scaleRow factorTurn scaleAll scale clear opens liftTurn lift
 examples = (refl, refl, refl, refl)

@@ -12,14 +12,16 @@ use lib.ListN.{length, getD, take, drop}
 use lib.Seq.{take-suc, take-all}
 use Rattle.field.specs.Field.{Ops, Ring, Field, sub, inv, fieldOf}
 use Rattle.field.proofs.Fields.{field-of}
-use Rattle.sharing.specs.Rules.{sum, drawAt, scaled, zeroFlag, blindedValue, factors, inversionDraws}
-use Rattle.sharing.specs.Lists.{joined, productAll, flagOf}
+use Rattle.sharing.specs.Rules.{sum, drawAt, scaled, blindedValue, factors, inversionDraws}
+use Rattle.sharing.specs.Lists.{joined, productAll}
 use Rattle.sharing.proofs.Rings.{mul-zero}
 use Rattle.sharing.proofs.Pairs.{run-holds}
-use Rattle.sharing.proofs.Lengths.{product-length, scaled-length, zeroFlag-length, factors-length}
+use Rattle.sharing.proofs.Lengths.{product-length, scaled-length, factors-length}
 use Rattle.sharing.proofs.Sums.{sum-lt, sum-refresh, sum-scaled, sum-product, sum-joined-add, sum-joined-sub, opening-value}
-use Rattle.sharing.proofs.Flag.{sum-zeroFlag}
+use Rattle.flag.proofs.Flag.{sum-zeroFlag}
 use Rattle.sharing.proofs.Inverting.{blinds, productAll-snoc, blindedValue-is, blindedValue-nonzero, factors-inverse}
+use Rattle.flag.proofs.Lengths.{zeroFlag-length}
+use Rattle.flag.specs.Flag.{zeroFlag, flagOf}
 use Rattle.table.specs.Layout.{tableBytes, part, entry, columnsFrom, rowFrom, Place}
 use Rattle.table.specs.Steps.{signed, joinRows, mix, check, scaleTurn, scaleRow, factorTurn, scaleAll, scale, clear, opens, lift}
 use Rattle.table.specs.Values.{value}

@@ -1,25 +1,22 @@
--- 01, "The step list": the draws of each step, in the paper's closed form. f is 01's number of folds, n the shares, N their pairs, and L the
--- number of columns from j on.
+-- 01, "The step list": the draws of each step, in the paper's closed form. n is the number of shares, N that of their pairs, and L that of
+-- the columns from j on; f(n-1+N) are the draws of a flag, and (n-1)²+N those of an Inversion.
 -- Assumes nothing.
 use Prim.Native.Nat.{ℕ, _+_, _-_, _*_}
 use Rattle.sharing.specs.Run.{pairs}
-use Rattle.sharing.specs.Rules.{folds}
-
--- f(n-1+N)
-unfoldable pub flagCost : ℕ → ℕ → ℕ
-flagCost f n = folds f * (n - 1 + pairs n)
+use Rattle.sharing.specs.Rules.{inversionDraws}
+use Rattle.flag.specs.Flag.{flagDraws}
 
 -- f(n-1+N)+L·N
 unfoldable pub mixCost : ℕ → ℕ → ℕ → ℕ
-mixCost f n L = flagCost f n + L * pairs n
+mixCost f n L = flagDraws f n + L * pairs n
 
 -- f(n-1+N)+N
 unfoldable pub checkCost : ℕ → ℕ → ℕ
-checkCost f n = flagCost f n + pairs n
+checkCost f n = flagDraws f n + pairs n
 
 -- (n-1)²+N+n(n-1)L
 unfoldable pub scaleCost : ℕ → ℕ → ℕ
-scaleCost n L = (n - 1) * (n - 1) + pairs n + n * (n - 1) * L
+scaleCost n L = inversionDraws n + n * (n - 1) * L
 
 -- n-1, from the nonzero tape
 unfoldable pub scaleNonzero : ℕ → ℕ

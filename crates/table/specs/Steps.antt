@@ -8,7 +8,8 @@ use lib.ListN.{getD, drop}
 use Rattle.field.specs.Field.{Ops, sub, fieldOf, pick}
 use Rattle.sharing.specs.Run.{run, pairs}
 use Rattle.sharing.specs.Lists.{joined}
-use Rattle.sharing.specs.Rules.{refresh, product, opening, zeroFlag, scaled, factors, inversionDraws, flagDraws}
+use Rattle.sharing.specs.Rules.{refresh, product, opening, scaled, factors, inversionDraws}
+use Rattle.flag.specs.Flag.{zeroFlag, flagDraws}
 use Rattle.table.specs.Layout.{cell, part, put, entry, columnsFrom, rowFrom, putRow}
 
 -- columns in order: n bytes each, of which column u (from 0) becomes turn u of itself

@@ -6,7 +6,7 @@ use mathlib.Core.List.{List}
 use lib.Dec.{eqb, leb, ltb}
 use Rattle.field.specs.Field.{Ops, sub, inv, pick}
 use Rattle.sharing.specs.Rules.{sum}
-use Rattle.sharing.specs.Lists.{flagOf}
+use Rattle.flag.specs.Flag.{flagOf}
 use Rattle.table.specs.Layout.{entry}
 
 -- 01: "The value of an entry is the sum of its n shares"

@@ -1,4 +1,4 @@
-// The five steps on a lent table, share for share as 01's step list says. Stands on row and sharing.
+// The five steps on a lent table, share for share as 01's step list says. Stands on row, flag and sharing.
 // f is the field's number, n the shares and w the entries of a row; the step works on the table in place and on copies of what it reads
 // twice. mask and nonzero are parts of the two tapes that begin at the step's own first draw and are at least as long as it needs.
 ghost use mathlib.Core.Path.{_≡_};
@@ -8,7 +8,7 @@ ghost use lib.ListN.{length};
 ghost use Rattle.field.specs.Field.{fieldOf, sub};
 ghost use Rattle.sharing.specs.Run.{pairs};
 ghost use Rattle.sharing.specs.Lists.{joined};
-ghost use Rattle.sharing.specs.Rules.{flagDraws, blindedValue, scaled};
+ghost use Rattle.sharing.specs.Rules.{blindedValue, scaled};
 ghost use Rattle.table.specs.Layout.{Sizes, Place, cell, tableBytes, entry, columnsFrom};
 ghost use Rattle.table.specs.Steps.{signed, joinRow, joinRows, mix, check, scaleRow, scaleAll, scale, clear, opens, liftTurn, lift};
 ghost use Rattle.table.specs.Refreshing.{refreshRow};
@@ -102,14 +102,6 @@ fn join_rows(
     );
 }
 
-// How many draws a zero flag takes.
-fn flag_draws(f: u64, n: usize) -> usize
-    requires { ⌜ (2 ≤ n) × (n ≤ 4) ⌝ }
-    ensures { λ r. ⌜ (r ≡ flagDraws f n) × (r ≤ 27) ⌝ }
-{
-    sharing::fold_count(f) * (n - 1 + sharing::pair_count(n))
-}
-
 // Mix(j,k), where row r takes column j's pivot.
 pub fn mix(
     f: u64,
@@ -128,9 +120,9 @@ pub fn mix(
     ensures { λ x. ⌜ now (table .exit) ≡ mix f n w r j k (now (mask .entry)) (now (table .entry)) ⌝ }
 {
     let pivot = cell(n, rows, w, r, j);
-    let d = flag_draws(f, n);
+    let d = flag::flag_draws(f, n);
     let mut flag = [0u8; 4];
-    sharing::zero_flag(f, &mut flag[..n], &table[pivot..pivot + n], mask);
+    flag::zero_flag(f, &mut flag[..n], &table[pivot..pivot + n], mask);
     join_rows(f, false, n, rows, w, table, &flag[..n], r, k, j, &mask[d..]);
 }
 
@@ -151,9 +143,9 @@ pub fn check(
     ensures { λ x. ⌜ x ≡ check f n w r j (now (mask .entry)) (now (table .entry)) ⌝ }
 {
     let p = cell(n, rows, w, r, j);
-    let d = flag_draws(f, n);
+    let d = flag::flag_draws(f, n);
     let mut flag = [0u8; 4];
-    sharing::zero_flag(f, &mut flag[..n], &table[p..p + n], mask);
+    flag::zero_flag(f, &mut flag[..n], &table[p..p + n], mask);
     sharing::opening(f, &mut flag[..n], &mask[d..])
 }
 
@@ -249,7 +241,7 @@ pub fn scale(
     let columns = w + 1 - j;
     let len = columns * n;
     let p = cell(n, rows, w, r, j);
-    let d = (n - 1) * (n - 1) + sharing::pair_count(n);
+    let d = sharing::inversion_draws(n);
     let factors = sharing::inversion(f, &table[p..p + n], nonzero, mask);
     scale_all(f, columns, &mut table[p..p + len], factors, &mask[d..]);
 }
@@ -343,21 +335,21 @@ pub fn mix_cost(f: u64, n: usize, l: usize) -> usize
     requires { ⌜ (2 ≤ n) × (n ≤ 4) × (l ≤ 97) ⌝ }
     ensures { λ r. ⌜ (r ≡ mixCost f n l) × (r ≤ 1179) ⌝ }
 {
-    flag_draws(f, n) + l * sharing::pair_count(n)
+    flag::flag_draws(f, n) + l * sharing::pair_count(n)
 }
 
 pub fn check_cost(f: u64, n: usize) -> usize
     requires { ⌜ (2 ≤ n) × (n ≤ 4) ⌝ }
     ensures { λ r. ⌜ (r ≡ checkCost f n) × (r ≤ 1179) ⌝ }
 {
-    flag_draws(f, n) + sharing::pair_count(n)
+    flag::flag_draws(f, n) + sharing::pair_count(n)
 }
 
 pub fn scale_cost(n: usize, l: usize) -> usize
     requires { ⌜ (2 ≤ n) × (n ≤ 4) × (l ≤ 97) ⌝ }
     ensures { λ r. ⌜ (r ≡ scaleCost n l) × (r ≤ 1179) ⌝ }
 {
-    (n - 1) * (n - 1) + sharing::pair_count(n) + n * (n - 1) * l
+    sharing::inversion_draws(n) + n * (n - 1) * l
 }
 
 pub fn clear_cost(n: usize, l: usize) -> usize

@@ -9,7 +9,7 @@ use native.Mathlib.Omega.{arith}
 use lib.Dec.{eqb, ltb}
 use lib.ListN.{length}
 use Rattle.field.specs.Field.{fieldOf, pick}
-use Rattle.sharing.specs.Lists.{flagOf}
+use Rattle.flag.specs.Flag.{flagOf}
 use Rattle.table.specs.Values.{value}
 use Rattle.table.proofs.Values.{check-value}
 use Rattle.course.specs.declared.Step.{Step}

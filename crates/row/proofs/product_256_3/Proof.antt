@@ -5,6 +5,7 @@ use native.Mathlib.Omega.{arith}
 use lib.Dec.{lit<, lit≤}
 use lib.ListN.{replicate}
 use Rattle.field.specs.Field.{F256, fieldOf, width}
+use Rattle.field.proofs.Fields.{binary-of}
 use Rattle.row.proofs.Streaming.{stream}
 use Rattle.row.proofs.Filling.{zeros-at}
 use Rattle.row.proofs.Choices.{later3, later3-at}
@@ -70,7 +71,7 @@ returns c =
     let s = c .before .before .before .before .before .before .before .before .before .before .before .before .before .before .before .before .before .before .before .before .before .before .before in
     let x = s .args in
     rw (c .before .before .gather .ensures, c .before .before .before .before .before .before .before .products .ensures, c .before .before .before .before .before .before .before .before .before .before .before .before .double-rows .ensures, c .before .before .before .before .before .before .before .before .before .before .before .before .before .before .before .repeat .ensures, c .before .before .before .before .before .before .before .before .before .before .before .before .before .before .before .before .before .before .spread .ensures)
-    (passes-products 256 3 (x .columns) 21 64 16 ((x .columns * 3 + 47) / 48) 16 ((x .columns * 3 + 47) / 48) ((x .columns * 3 + 47) / 48 * 48)
+    (passes-products (binary-of 256) 3 (x .columns) 21 64 16 ((x .columns * 3 + 47) / 48) 16 ((x .columns * 3 + 47) / 48) ((x .columns * 3 + 47) / 48 * 48)
     (x .mask .now) (x .a .now) (x .row .now) (replicate 1008 0) (replicate 512 0) later3
     (lit≤ tt) (lit≤ tt) (lit≤ tt) (lit≤ tt) (lit≤ tt) (lit< tt) (lit≤ tt)
     (omega arith) (omega arith) (omega arith) (omega arith) (omega arith) (omega arith)

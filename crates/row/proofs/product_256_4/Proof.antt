@@ -5,6 +5,7 @@ use native.Mathlib.Omega.{arith}
 use lib.Dec.{lit<, lit≤}
 use lib.ListN.{replicate}
 use Rattle.field.specs.Field.{F256, fieldOf, width}
+use Rattle.field.proofs.Fields.{binary-of}
 use Rattle.row.proofs.Streaming.{stream}
 use Rattle.row.proofs.Filling.{zeros-at}
 use Rattle.row.proofs.Choices.{later4, later4-at}
@@ -70,7 +71,7 @@ returns c =
     let s = c .before .before .before .before .before .before .before .before .before .before .before .before .before .before .before .before .before .before .before .before .before .before .before in
     let x = s .args in
     rw (c .before .before .gather .ensures, c .before .before .before .before .before .before .before .products .ensures, c .before .before .before .before .before .before .before .before .before .before .before .before .double-rows .ensures, c .before .before .before .before .before .before .before .before .before .before .before .before .before .before .before .repeat .ensures, c .before .before .before .before .before .before .before .before .before .before .before .before .before .before .before .before .before .before .spread .ensures)
-    (passes-products 256 4 (x .columns) 8 32 4 ((x .columns * 4 + 15) / 16) 4 ((x .columns * 4 + 15) / 16) ((x .columns * 4 + 15) / 16 * 16)
+    (passes-products (binary-of 256) 4 (x .columns) 8 32 4 ((x .columns * 4 + 15) / 16) 4 ((x .columns * 4 + 15) / 16) ((x .columns * 4 + 15) / 16 * 16)
     (x .mask .now) (x .a .now) (x .row .now) (replicate 1600 0) (replicate 256 0) later4
     (lit≤ tt) (lit≤ tt) (lit≤ tt) (lit≤ tt) (lit≤ tt) (lit< tt) (lit≤ tt)
     (omega arith) (omega arith) (omega arith) (omega arith) (omega arith) (omega arith)

@@ -7,7 +7,7 @@ use native.Mathlib.Nat.{mul-le-mul}
 use lib.ListN.{length, length-set}
 use Rattle.sharing.specs.Run.{run}
 use Rattle.sharing.proofs.Loops.{run-none, run-next, run-done, taken-more, taken-room}
-use Rattle.sharing.specs.Passes.{xorAt}
+use Rattle.sharing.specs.Code.Bytes.{xorAt}
 use Rattle.row.specs.Products.{byteTurn, byteProducts}
 use borrow.Author.Needs.{needs}
 use Rattle.row.proofs.product_byte.Statement.{statement}

@@ -20,11 +20,11 @@ abbrev μ-loop : tie.MeasureT-loop
 loop-holds : tie.Need-loop-holds Inv-loop μ-loop
 loop-holds c = (search needs, search needs, search needs, filled-none _ _)
 
-shared-slice-read-draw : tie.Need-shared-slice-read-draw Inv-loop μ-loop
-shared-slice-read-draw c = search needs
+shared-slice-read-reduce : tie.Need-shared-slice-read-reduce Inv-loop μ-loop
+shared-slice-read-reduce c = search needs
 
-draw-requires : tie.Need-draw-requires Inv-loop μ-loop
-draw-requires c κs = search needs
+reduce-requires : tie.Need-reduce-requires Inv-loop μ-loop
+reduce-requires c κs = search needs
 
 slice-write-a : tie.Need-slice-write-a Inv-loop μ-loop
 slice-write-a c = search needs
@@ -36,7 +36,7 @@ loop-less : tie.Need-loop-less Inv-loop μ-loop
 loop-less c = search needs
 
 loop-again : tie.Need-loop-again Inv-loop μ-loop
-loop-again c = let l = c .before .before .before .loop in (search needs, search needs, simp length-set (l .inv .2), filled-next _ (l .s) _ (l .a) (omega arith) (l .inv .3) (c .draw .ensures))
+loop-again c = let l = c .before .before .before .loop in (search needs, search needs, simp length-set (l .inv .2), filled-next _ (l .s) _ (l .a) (omega arith) (l .inv .3) (c .reduce .ensures))
 
 same-length : tie.Need-same-length Inv-loop μ-loop
 same-length c = search needs
@@ -51,8 +51,8 @@ reduced-spec =
     Inv-loop
     μ-loop
     loop-holds
-    shared-slice-read-draw
-    draw-requires
+    shared-slice-read-reduce
+    reduce-requires
     slice-write-a
     add-s
     loop-less

@@ -1,6 +1,6 @@
--- `sharing::scale_opened` meets its contract: each branch calls the look-ups or the loop of its field.
+-- `sharing::scale_opened` meets its contract: F16 by its look-ups, and the other field by its products.
 -- Assumes nothing.
-use borrow.Author.Tests.{eq-eqb, ne-eqb}
+use borrow.Author.Tests.{eq-eqb}
 use Rattle.field.specs.Field.{fieldOf}
 use borrow.Author.Needs.{needs}
 use Rattle.sharing.proofs.scale_opened.Statement.{statement}
@@ -9,8 +9,8 @@ use Rattle.sharing.proofs.scale_opened.Tie as tie
 look-up16-requires : tie.Need-look-up16-requires
 look-up16-requires c κs = search needs
 
-scale256-requires : tie.Need-scale256-requires
-scale256-requires c κs = search needs
+scale-requires : tie.Need-scale-requires
+scale-requires c κs = search needs
 
 same-length : tie.Need-same-length
 same-length c = search needs
@@ -23,8 +23,7 @@ same-length-2 : tie.Need-same-length-2
 same-length-2 c = search needs
 
 returns-2 : tie.Need-returns-2
-unfolding fieldOf
-returns-2 c = rw (ne-eqb (c .before .before .before .before .before .before .args .f) 16 (c .before .before .before .before .if1 .left)) (c .before .before .scale256 .ensures)
+returns-2 c = c .before .before .scale .ensures
 
 pub scale-opened-spec : {M : Type 1} → statement M
-scale-opened-spec = tie.close (tie.spec look-up16-requires scale256-requires same-length returns same-length-2 returns-2)
+scale-opened-spec = tie.close (tie.spec look-up16-requires scale-requires same-length returns same-length-2 returns-2)

@@ -3,15 +3,14 @@
 use mathlib.Core.Path.{_≡_}
 use Prim.Native.Nat.{_+_, _≤_}
 use native.Mathlib.Omega.{arith}
-use Rattle.sharing.specs.Rules.{foldDraws}
-use Rattle.table.specs.Costs.{flagCost, checkCost}
+use Rattle.table.specs.Costs.{checkCost}
 use Rattle.table.proofs.CostBounds.{check-few}
 use borrow.Author.Needs.{needs}
 use Rattle.table.proofs.check_cost.Statement.{statement}
 use Rattle.table.proofs.check_cost.Tie as tie
 
 check-is : (c : tie.After-pair-count) → c .before .flag-draws .result + c .pair-count .result ≡ checkCost (c .before .before .args .f) (c .before .before .args .n)
-unfolding foldDraws flagCost checkCost
+unfolding checkCost
 check-is c = simp (c .before .flag-draws .ensures .0, c .pair-count .ensures)
 
 check-within : (c : tie.After-pair-count) → c .before .flag-draws .result + c .pair-count .result ≤ 1179

@@ -3,15 +3,14 @@
 use mathlib.Core.Path.{_≡_}
 use Prim.Native.Nat.{_+_, _*_, _≤_}
 use native.Mathlib.Omega.{arith}
-use Rattle.sharing.specs.Rules.{foldDraws}
-use Rattle.table.specs.Costs.{flagCost, mixCost}
+use Rattle.table.specs.Costs.{mixCost}
 use Rattle.table.proofs.CostBounds.{mix-few}
 use borrow.Author.Needs.{needs}
 use Rattle.table.proofs.mix_cost.Statement.{statement}
 use Rattle.table.proofs.mix_cost.Tie as tie
 
 mix-is : (c : tie.After-pair-count) → c .before .flag-draws .result + c .before .before .args .l * c .pair-count .result ≡ mixCost (c .before .before .args .f) (c .before .before .args .n) (c .before .before .args .l)
-unfolding foldDraws flagCost mixCost
+unfolding mixCost
 mix-is c = simp (c .before .flag-draws .ensures .0, c .pair-count .ensures)
 
 mix-within : (c : tie.After-pair-count) → c .before .flag-draws .result + c .before .before .args .l * c .pair-count .result ≤ 1179

@@ -12,7 +12,6 @@ use Rattle.table.specs.Costs.{scaleNonzero}
 use Rattle.table.specs.Steps.{scale}
 use Rattle.table.proofs.Parts.{part-lent, put-lent}
 use Rattle.table.proofs.Cells.{cell-in, row-in, entry-length, rowFrom-length}
-use Rattle.table.proofs.CostBounds.{few}
 use Rattle.table.proofs.Draws.{scaleCost-is}
 use Rattle.table.proofs.Scaling.{scaleAll-four}
 use borrow.Author.Needs.{needs}
@@ -32,15 +31,8 @@ row-within c =
     let s = c .before .before .before .before in
     omega (arith, c .cell .ensures, row-in (s .args .n) (s .pre .1 .0), s .pre .1 .1 .0)
 
--- how many draws the inversion took
-inverted : (c : tie.After-pair-count)
-    → let n = c .before .before .before .before .before .args .n in
-    (n - 1) * (n - 1) + c .pair-count .result ≡ inversionDraws n
-unfolding inversionDraws
-inverted c = rw (c .pair-count .ensures)
-
 -- the inversion's draws, then those of the factors, are there
-room : (c : tie.After-pair-count)
+room : (c : tie.After-inversion-draws)
     → let s = c .before .before .before .before .before in
     inversionDraws (s .args .n) + s .args .n * (columnsFrom (s .args .w) (s .args .j) * (s .args .n - 1)) ≤ length (s .args .mask .now)
 room c =
@@ -70,20 +62,8 @@ mul-len c =
 cell-requires : tie.Need-cell-requires
 cell-requires c κs = search needs
 
-sub-d : tie.Need-sub-d
-sub-d c = search needs
-
-sub-d-2 : tie.Need-sub-d-2
-sub-d-2 c = search needs
-
-mul-d : tie.Need-mul-d
-mul-d c = omega (arith, few (c .before .before .before .before .args .n) (omega arith) .square)
-
-pair-count-requires : tie.Need-pair-count-requires
-pair-count-requires c κs = search needs
-
-add-d : tie.Need-add-d
-add-d c = omega (arith, inverted c, room c)
+inversion-draws-requires : tie.Need-inversion-draws-requires
+inversion-draws-requires c κs = search needs
 
 add-inversion : tie.Need-add-inversion
 add-inversion c = omega (arith, pivot-within (c .before))
@@ -118,10 +98,10 @@ part-scale-all-end : tie.Need-part-scale-all-end
 part-scale-all-end c = omega (arith, row-within (c .before .before .before .before))
 
 sub-scale-all-2 : tie.Need-sub-scale-all-2
-sub-scale-all-2 c = let p = c .before .before .before .before in omega (arith, inverted p, room p)
+sub-scale-all-2 c = let p = c .before .before .before .before in omega (arith, p .inversion-draws .ensures .0, room p)
 
 part-scale-all-start-2 : tie.Need-part-scale-all-start-2
-part-scale-all-start-2 c = let p = c .before .before .before .before in omega (arith, inverted p, room p)
+part-scale-all-start-2 c = let p = c .before .before .before .before in omega (arith, p .inversion-draws .ensures .0, room p)
 
 part-scale-all-end-2 : tie.Need-part-scale-all-end-2
 part-scale-all-end-2 c = search needs
@@ -132,7 +112,7 @@ scale-all-requires c κs =
     let p = i .before .before .before in
     let s = p .before .before .before .before .before in
     rw (found i .0, part-lent, p .before .cell .ensures, rowFrom-length _ _ _ _ (s .pre .1 .1 .0) (s .pre .1 .0), rest, length-drop)
-    (omega (arith, inverted p, room p))
+    (omega (arith, p .inversion-draws .ensures .0, room p))
 
 same-length : tie.Need-same-length
 same-length c = search needs
@@ -144,7 +124,7 @@ returns c =
     let p = i .before .before .before in
     let s = p .before .before .before .before .before in
     let h : s .args .n ≤ 4 = omega arith in
-    rw (put-lent, c .before .before .scale-all .ensures, found i .0, found i .1, rest, part-lent, p .before .cell .ensures, inverted p, scaleAll-four _ _ _ _ _ _ h)
+    rw (put-lent, c .before .before .scale-all .ensures, found i .0, found i .1, rest, part-lent, p .before .cell .ensures, p .inversion-draws .ensures .0, scaleAll-four _ _ _ _ _ _ h)
 
 pub scale-spec : {M : Type 1} → statement M
 scale-spec =
@@ -154,11 +134,7 @@ scale-spec =
     sub-columns
     mul-len
     cell-requires
-    sub-d
-    sub-d-2
-    mul-d
-    pair-count-requires
-    add-d
+    inversion-draws-requires
     add-inversion
     sub-inversion
     part-inversion-start

@@ -9,42 +9,30 @@ use borrow.Author.Needs.{needs}
 use Rattle.table.proofs.scale_cost.Statement.{statement}
 use Rattle.table.proofs.scale_cost.Tie as tie
 
-scale-is : (c : tie.After-pair-count) → let n = c .before .args .n in (n - 1) * (n - 1) + c .pair-count .result + n * (n - 1) * c .before .args .l ≡ scaleCost n (c .before .args .l)
+scale-is : (c : tie.After-inversion-draws) → let n = c .before .args .n in c .inversion-draws .result + n * (n - 1) * c .before .args .l ≡ scaleCost n (c .before .args .l)
 unfolding scaleCost
-scale-is c = simp (c .pair-count .ensures)
+scale-is c = simp (c .inversion-draws .ensures .0)
 
-scale-within : (c : tie.After-pair-count) → let n = c .before .args .n in (n - 1) * (n - 1) + c .pair-count .result + n * (n - 1) * c .before .args .l ≤ 1179
+scale-within : (c : tie.After-inversion-draws) → let n = c .before .args .n in c .inversion-draws .result + n * (n - 1) * c .before .args .l ≤ 1179
 scale-within c = rw (scale-is c) (scale-few (c .before .args .n) (c .before .args .l) (omega arith) (omega arith))
+
+inversion-draws-requires : tie.Need-inversion-draws-requires
+inversion-draws-requires c κs = search needs
 
 sub-result : tie.Need-sub-result
 sub-result c = search needs
 
-sub-result-2 : tie.Need-sub-result-2
-sub-result-2 c = search needs
-
 mul-result : tie.Need-mul-result
-mul-result c = omega (arith, few (c .args .n) (omega arith) .square)
+mul-result c = omega (arith, few (c .before .args .n) (omega arith) .product)
 
-pair-count-requires : tie.Need-pair-count-requires
-pair-count-requires c κs = search needs
+mul-result-2 : tie.Need-mul-result-2
+mul-result-2 c = omega (arith, scale-within c)
 
 add-result : tie.Need-add-result
 add-result c = omega (arith, scale-within c)
-
-sub-result-3 : tie.Need-sub-result-3
-sub-result-3 c = search needs
-
-mul-result-2 : tie.Need-mul-result-2
-mul-result-2 c = omega (arith, few (c .before .args .n) (omega arith) .product)
-
-mul-result-3 : tie.Need-mul-result-3
-mul-result-3 c = omega (arith, scale-within c)
-
-add-result-2 : tie.Need-add-result-2
-add-result-2 c = omega (arith, scale-within c)
 
 returns : tie.Need-returns
 returns c = (scale-is c, scale-within c)
 
 pub scale-cost-spec : {M : Type 1} → statement M
-scale-cost-spec = tie.close (tie.spec sub-result sub-result-2 mul-result pair-count-requires add-result sub-result-3 mul-result-2 mul-result-3 add-result-2 returns)
+scale-cost-spec = tie.close (tie.spec inversion-draws-requires sub-result mul-result mul-result-2 add-result returns)

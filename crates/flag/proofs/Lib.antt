@@ -1,0 +1,5 @@
+pub mod Lengths
+pub mod AndPasses
+pub mod Folding
+pub mod Flag
+pub mod Draws
