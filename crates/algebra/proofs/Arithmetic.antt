@@ -1,115 +1,134 @@
--- What follows from a field's laws, and the laws of the product of a row and a vector.
+-- What follows from a field's laws, by names that `simp` takes, and the laws of a combination.
 -- Assumes nothing.
-use mathlib.Core.Path.{_≡_, refl, _∙_, ap₂}
-use mathlib.Core.Logic.{_≢_}
-use Prim.Native.Nat.{ℕ, zero, suc, _<_}
+use mathlib.Core.Path.{_≡_, refl, sym, _∙_}
+use Prim.Native.Nat.{ℕ, zero, suc, _%_, _<_, _≤_}
+use native.Mathlib.Nat.{mod-eq-of-lt, zero-mod, mod-mod}
 use native.Mathlib.Omega.{arith}
-use Rattle.algebra.specs.Field.{Ops, dot}
-use Rattle.algebra.specs.Laws.{Field}
+use Rattle.field.specs.Field.{Ops, Field}
+use Rattle.field.proofs.Inverses as I
+use Rattle.sharing.proofs.Rings as R
+use Rattle.algebra.specs.Linear.{combination}
 
-module _ {F : Type 0} (K : Field F) where
-  open Field K using (ops as O)
-  open Ops (K .ops) using (nought as 𝟘, one as 𝟙, add as _⊕_, mul as _⊙_, neg, inv)
+module _ (F : Ops) (L : Field F) where
+  open Ops F using (q, add as _⊕_, mul as _⊙_, neg)
 
   infixl 60 _⊕_
   infixl 70 _⊙_
-  pub add-assoc : (a b c : F) → a ⊕ b ⊕ c ≡ a ⊕ (b ⊕ c)
-  add-assoc = K .laws .add-assoc
+  pub add-assoc : (a b c : ℕ) → a ⊕ b ⊕ c ≡ a ⊕ (b ⊕ c)
+  add-assoc = L .ring .add-assoc
 
-  pub add-comm : (a b : F) → a ⊕ b ≡ b ⊕ a
-  add-comm = K .laws .add-comm
+  pub add-comm : (a b : ℕ) → a ⊕ b ≡ b ⊕ a
+  add-comm = L .ring .add-comm
 
-  pub add-nought : (a : F) → a ⊕ 𝟘 ≡ a
-  add-nought = K .laws .add-nought
+  pub add-left-comm : (a b c : ℕ) → a ⊕ (b ⊕ c) ≡ b ⊕ (a ⊕ c)
+  add-left-comm = R.left-comm F (L .ring)
 
-  pub add-neg : (a : F) → a ⊕ neg a ≡ 𝟘
-  add-neg = K .laws .add-neg
+  pub add-zero : (a : ℕ) → a ⊕ 0 ≡ a % q
+  add-zero = L .ring .add-zero
 
-  pub mul-assoc : (a b c : F) → a ⊙ b ⊙ c ≡ a ⊙ (b ⊙ c)
-  mul-assoc = K .laws .mul-assoc
+  pub zero-add : (a : ℕ) → 0 ⊕ a ≡ a % q
+  zero-add = R.zero-add F (L .ring)
 
-  pub mul-comm : (a b : F) → a ⊙ b ≡ b ⊙ a
-  mul-comm = K .laws .mul-comm
+  pub add-neg : (a : ℕ) → a ⊕ neg a ≡ 0
+  add-neg = L .ring .add-neg
 
-  pub mul-one : (a : F) → a ⊙ 𝟙 ≡ a
-  mul-one = K .laws .mul-one
+  pub mul-assoc : (a b c : ℕ) → a ⊙ b ⊙ c ≡ a ⊙ (b ⊙ c)
+  mul-assoc = L .ring .mul-assoc
 
-  pub mul-add : (a b c : F) → a ⊙ (b ⊕ c) ≡ a ⊙ b ⊕ a ⊙ c
-  mul-add = K .laws .mul-add
+  pub mul-comm : (a b : ℕ) → a ⊙ b ≡ b ⊙ a
+  mul-comm = L .ring .mul-comm
 
-  pub mul-inv : (a : F) → a ≢ 𝟘 → a ⊙ inv a ≡ 𝟙
-  mul-inv = K .laws .mul-inv
+  pub mul-left-comm : (a b c : ℕ) → a ⊙ (b ⊙ c) ≡ b ⊙ (a ⊙ c)
+  mul-left-comm = R.mul-left-comm F (L .ring)
 
-  pub one≢nought : 𝟙 ≢ 𝟘
-  one≢nought = K .laws .one≢nought
+  pub mul-one : (a : ℕ) → a ⊙ 1 ≡ a % q
+  mul-one = L .mul-one
 
-  pub nought-add : (a : F) → 𝟘 ⊕ a ≡ a
-  nought-add a = add-comm _ _ ∙ add-nought a
+  pub one-mul : (a : ℕ) → 1 ⊙ a ≡ a % q
+  one-mul a = mul-comm 1 a ∙ mul-one a
 
-  pub one-mul : (a : F) → 𝟙 ⊙ a ≡ a
-  one-mul a = mul-comm _ _ ∙ mul-one a
+  pub mul-zero : (a : ℕ) → a ⊙ 0 ≡ 0
+  mul-zero = R.mul-zero F (L .ring)
 
-  pub neg-add : (a : F) → neg a ⊕ a ≡ 𝟘
-  neg-add a = add-comm _ _ ∙ add-neg a
+  pub zero-mul : (a : ℕ) → 0 ⊙ a ≡ 0
+  zero-mul = I.zero-mul F L
 
-  pub add-mul : (a b c : F) → (a ⊕ b) ⊙ c ≡ a ⊙ c ⊕ b ⊙ c
-  add-mul a b c = mul-comm _ _ ∙ mul-add c a b ∙ ap₂ _⊕_ (mul-comm c a) (mul-comm c b)
+  pub mul-add : (a b c : ℕ) → a ⊙ (b ⊕ c) ≡ a ⊙ b ⊕ a ⊙ c
+  mul-add = L .ring .mul-add
 
-  pub add-left-comm : (a b c : F) → a ⊕ (b ⊕ c) ≡ b ⊕ (a ⊕ c)
-  add-left-comm a b c = rw (← (add-assoc a b c), add-comm a b, add-assoc b a c)
+  pub add-mul : (a b c : ℕ) → (a ⊕ b) ⊙ c ≡ a ⊙ c ⊕ b ⊙ c
+  add-mul = R.add-mul F (L .ring)
 
-  pub mul-left-comm : (a b c : F) → a ⊙ (b ⊙ c) ≡ b ⊙ (a ⊙ c)
-  mul-left-comm a b c = rw (← (mul-assoc a b c), mul-comm a b, mul-assoc b a c)
+  pub add-left : (a b : ℕ) → a % q ⊕ b ≡ a ⊕ b
+  add-left = R.add-left F (L .ring)
 
-  pub cancel : (a b : F) → a ⊕ b ≡ a → b ≡ 𝟘
-  cancel a b e = cc (nought-add b, neg-add a, add-assoc (neg a) a b)
+  pub add-right : (a b : ℕ) → a ⊕ b % q ≡ a ⊕ b
+  add-right = R.add-right F (L .ring)
 
-  pub cancel-right : {a b : F} (c : F) → a ⊕ c ≡ b ⊕ c → a ≡ b
-  cancel-right {a} {b} c e = cc (add-nought a, add-nought b, add-neg c, add-assoc a c (neg c), add-assoc b c (neg c))
+  pub mul-left : (a b : ℕ) → (a % q) ⊙ b ≡ a ⊙ b
+  mul-left = I.mul-left F L
 
-  pub mul-nought : (a : F) → a ⊙ 𝟘 ≡ 𝟘
-  mul-nought a = cancel (a ⊙ 𝟘) (a ⊙ 𝟘) (rw (← (mul-add a 𝟘 𝟘), add-nought))
+  pub mul-right : (a b : ℕ) → a ⊙ (b % q) ≡ a ⊙ b
+  mul-right a b = mul-comm a (b % q) ∙ mul-left b a ∙ mul-comm b a
 
-  pub nought-mul : (a : F) → 𝟘 ⊙ a ≡ 𝟘
-  nought-mul a = mul-comm _ _ ∙ mul-nought a
+  -- sums and products in a normal form, where a number counts as what it leaves modulo q
+  pub ruleset ring = (mul-add, add-mul, mul-assoc, add-assoc, add-comm, add-left-comm, mul-comm, mul-left-comm, add-zero, zero-add, mul-zero, zero-mul, mul-one, one-mul, add-left, add-right, mul-left, mul-right, zero-mod, mod-mod)
 
-  pub neg-add-left : (a b : F) → neg a ⊕ (a ⊕ b) ≡ b
-  neg-add-left a b = rw (← (add-assoc (neg a) a b), neg-add, nought-add)
+  pub neg-mul : (a b : ℕ) → neg a ⊙ b ≡ neg (a ⊙ b)
+  neg-mul a b =
+      R.add-cancel F (L .ring) (a ⊙ b) (L .ring .mul-lt (neg a) b) (L .ring .neg-lt (a ⊙ b))
+      (sym (add-mul a (neg a) b) ∙ rw (add-neg a) (zero-mul b) ∙ sym (add-neg (a ⊙ b)))
 
-  pub neg-is : (a b : F) → a ⊕ b ≡ 𝟘 → b ≡ neg a
-  neg-is a b e = cc (neg-add-left a b, add-nought (neg a))
-
-  pub neg-mul : (a b : F) → neg a ⊙ b ≡ neg (a ⊙ b)
-  neg-mul a b = neg-is _ _ (rw (← (add-mul a (neg a) b), add-neg, nought-mul))
-
-  pub mul-neg : (a b : F) → a ⊙ neg b ≡ neg (a ⊙ b)
+  pub mul-neg : (a b : ℕ) → a ⊙ neg b ≡ neg (a ⊙ b)
   mul-neg a b = rw (mul-comm a (neg b), mul-comm a b, neg-mul)
 
-  pub minus-nought : (a b : F) → a ⊕ neg b ≡ 𝟘 → a ≡ b
-  minus-nought a b e = cc (add-assoc a (neg b) b, neg-add b, add-nought a, nought-add b)
+  -- what was taken away is added again
+  pub sub-back : (a b : ℕ) → a ⊕ neg b ⊕ b ≡ a % q
+  sub-back = R.sub-back F (L .ring)
 
-  pub ruleset ring = (mul-add, add-mul, mul-assoc, add-assoc, add-comm, add-left-comm, mul-comm, mul-left-comm, add-nought, nought-add, mul-nought, nought-mul, mul-one, one-mul)
+  pub add-sub : (a b : ℕ) → a ⊕ b ⊕ neg b ≡ a % q
+  add-sub a b = rw (add-assoc, add-neg) (add-zero a)
 
-  pub dot-zero : (f v : ℕ → F) → dot O zero f v ≡ 𝟘
-  unfolding dot
-  dot-zero f v = refl
+  pub cancel-right : {a b : ℕ} (c : ℕ) → a ⊕ c ≡ b ⊕ c → a % q ≡ b % q
+  cancel-right {a} {b} c e = sym (add-sub a c) ∙ rw e (add-sub b c)
 
-  pub dot-suc : (n : ℕ) (f v : ℕ → F) → dot O (suc n) f v ≡ dot O n f v ⊕ f n ⊙ v n
-  unfolding dot
-  dot-suc n f v = refl
+  -- ---- combinations
 
-  pub dot-lin : (n : ℕ) (a b : F) (f g h v : ℕ → F) → ((c : ℕ) → c < n → h c ≡ a ⊙ f c ⊕ b ⊙ g c) → dot O n h v ≡ a ⊙ dot O n f v ⊕ b ⊙ dot O n g v
-  dot-lin zero a b f g h v e = simp (ring, dot-zero)
-  dot-lin (suc n) a b f g h v e = simp (dot-suc, dot-lin n a b f g h v (λ c l. e c (omega arith)), e n (omega arith), ring)
+  pub combination-zero : (f v : ℕ → ℕ) → combination F f v zero ≡ 0
+  unfolding combination
+  combination-zero f v = refl
 
-  pub dot-ext : (n : ℕ) (f g v w : ℕ → F) → ((c : ℕ) → c < n → f c ≡ g c) → ((c : ℕ) → c < n → v c ≡ w c) → dot O n f v ≡ dot O n g w
-  dot-ext zero f g v w e d = simp dot-zero
-  dot-ext (suc n) f g v w e d = simp (dot-suc, dot-ext n f g v w (λ c l. e c (omega arith)) (λ c l. d c (omega arith)), e n (omega arith), d n (omega arith))
+  pub combination-suc : (n : ℕ) (f v : ℕ → ℕ) → combination F f v (suc n) ≡ combination F f v n ⊕ f (suc n) ⊙ v (suc n)
+  unfolding combination
+  combination-suc n f v = refl
 
-  pub dot-comm : (n : ℕ) (f v : ℕ → F) → dot O n f v ≡ dot O n v f
-  dot-comm zero f v = simp dot-zero
-  dot-comm (suc n) f v = simp (dot-suc, dot-comm n f v, mul-comm)
+  pub combination-lt : (n : ℕ) (f v : ℕ → ℕ) → combination F f v n < q
+  combination-lt zero f v = rw (combination-zero f v) (L .ring .pos)
+  combination-lt (suc n) f v = rw (combination-suc n f v) (L .ring .add-lt _ _)
 
-  pub dot-nought : (n : ℕ) (f v : ℕ → F) → ((c : ℕ) → c < n → f c ≡ 𝟘) → dot O n f v ≡ 𝟘
-  dot-nought zero f v e = dot-zero f v
-  dot-nought (suc n) f v e = simp (dot-suc, dot-nought n f v (λ c l. e c (omega arith)), e n (omega arith), ring)
+  pub combination-lin : (n a b : ℕ) (f g h v : ℕ → ℕ) → ((c : ℕ) → 1 ≤ c → c ≤ n → h c ≡ a ⊙ f c ⊕ b ⊙ g c)
+      → combination F h v n ≡ a ⊙ combination F f v n ⊕ b ⊙ combination F g v n
+  combination-lin zero a b f g h v e = simp (combination-zero, ring)
+  combination-lin (suc n) a b f g h v e =
+      simp (combination-suc, combination-lin n a b f g h v (λ c k l. e c k (omega arith)), e (suc n) (omega arith) (omega arith), ring)
+
+  pub combination-ext : (n : ℕ) (f g v w : ℕ → ℕ) → ((c : ℕ) → 1 ≤ c → c ≤ n → f c ≡ g c) → ((c : ℕ) → 1 ≤ c → c ≤ n → v c ≡ w c)
+      → combination F f v n ≡ combination F g w n
+  combination-ext zero f g v w e d = simp combination-zero
+  combination-ext (suc n) f g v w e d =
+      simp (
+        combination-suc,
+        combination-ext n f g v w (λ c k l. e c k (omega arith)) (λ c k l. d c k (omega arith)),
+        e (suc n) (omega arith) (omega arith),
+        d (suc n) (omega arith) (omega arith),
+      )
+
+  pub combination-comm : (n : ℕ) (f v : ℕ → ℕ) → combination F f v n ≡ combination F v f n
+  combination-comm zero f v = simp combination-zero
+  combination-comm (suc n) f v = simp (combination-suc, combination-comm n f v, mul-comm)
+
+  pub combination-zeros : (n : ℕ) (f v : ℕ → ℕ) → ((c : ℕ) → 1 ≤ c → c ≤ n → f c ≡ 0) → combination F f v n ≡ 0
+  combination-zeros zero f v e = combination-zero f v
+  combination-zeros (suc n) f v e =
+      rw (combination-suc n f v, combination-zeros n f v (λ c k l. e c k (omega arith)), e (suc n) (omega arith) (omega arith))
+      (simp ring)

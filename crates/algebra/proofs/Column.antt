@@ -1,77 +1,134 @@
--- What Mix and Clear with every row below do: they are row operations, Mix finds a pivot if there is one, and Clear leaves 0 below it.
+-- What the steps of a column do to the shape of a table: Mix finds a pivot if there is one, Scale makes it 1, and Clear leaves 0 below it.
+-- Any other way of bringing a pivot to its place serves as well, if it ends in `Sought m`.
 -- Assumes nothing.
-use mathlib.Core.Path.{_≡_, refl, sym, _∙_}
-use mathlib.Core.Logic.{_≢_, _⊎_, inl, inr}
-use Prim.Native.Nat.{ℕ, zero, suc, _<_, _≤_, _+_}
+use mathlib.Core.Path.{_≡_, refl, sym, ap, _∙_}
+use mathlib.Core.Logic.{_≢_}
+use mathlib.Core.Bool.{Bool}
+use Prim.Native.Nat.{ℕ, suc, _<_, _≤_}
+use native.Mathlib.Nat.{mod-eq-of-lt}
 use native.Mathlib.Omega.{arith}
 use native.Mathlib.Decide.{ℕ-discrete}
-use Rattle.algebra.specs.Field.{Ops}
-use Rattle.algebra.specs.Laws.{Field}
+use borrow.Author.Tests.{eq-eqb, ne-eqb}
+use Rattle.field.specs.Field.{Ops, Field, inv, pick}
+use Rattle.field.proofs.Inverses.{mul-inv}
+use Rattle.flag.specs.Flag.{flagOf}
 use Rattle.algebra.specs.Linear.{Table}
-use Rattle.algebra.specs.Steps.{flag, mixRow, clearRow}
-use Rattle.algebra.specs.Solve.{mixes, clears}
-use Rattle.algebra.proofs.Arithmetic.{ring, add-neg, mul-one}
-use Rattle.algebra.proofs.Entries.{flag-one, flag-nought, put-in, put-row}
-use Rattle.algebra.proofs.Rows.{Zeros, Work, work-refl, work-trans, zeros-work, add-work}
+use Rattle.algebra.specs.Steps.{Mixes, Scales, Clears}
+use Rattle.algebra.proofs.Arithmetic.{ring, mul-comm, mul-one, neg-mul, add-neg}
+use Rattle.algebra.proofs.Outcome.{Small}
+use Rattle.algebra.proofs.Rows.{Keep, Work, add-work, scale-work}
+use Rattle.algebra.proofs.Echelon.{Echelon, start, pivot, pass, ech-zeros, ech-ext}
 
-module _ {F : Type 0} (O : Ops F) (k j : ℕ) (T : Table F) where
-  pub mixes-zero : mixes O k j zero T ≡ T
-  unfolding mixes
-  mixes-zero = refl
+pub flag-yes : {v : ℕ} → v ≡ 0 → flagOf v ≡ 1
+unfolding flagOf
+flag-yes {v} e = ap (λ (b : Bool). pick {A = ℕ} b 1 0) (eq-eqb v 0 e)
 
-  pub mixes-suc : (n : ℕ) → mixes O k j (suc n) T ≡ mixRow O k j (suc (k + n)) (mixes O k j n T)
-  unfolding mixes
-  mixes-suc n = refl
+pub flag-no : {v : ℕ} → v ≢ 0 → flagOf v ≡ 0
+unfolding flagOf
+flag-no {v} n = ap (λ (b : Bool). pick {A = ℕ} b 1 0) (ne-eqb v 0 n)
 
-  pub clears-zero : clears O k j zero T ≡ T
-  unfolding clears
-  clears-zero = refl
-
-  pub clears-suc : (n : ℕ) → clears O k j (suc n) T ≡ clearRow O k j (suc (k + n)) (clears O k j n T)
-  unfolding clears
-  clears-suc n = refl
-
-  pub mix-rows : (n r c : ℕ) → r ≢ k → mixes O k j n T r c ≡ T r c
-  mix-rows zero r c h = rw mixes-zero
-  mix-rows (suc n) r c h = rw (mixes-suc n, put-row j k _ _ r c h) (mix-rows n r c h)
-
-  pub clear-rows : (n r c : ℕ) → (r ≤ k) ⊎ (k + n < r) → clears O k j n T r c ≡ T r c
-  clear-rows zero r c h = rw clears-zero
-  clear-rows (suc n) r c (inl h) = rw (clears-suc n, put-row j (suc (k + n)) _ _ r c (omega arith)) (clear-rows n r c (inl h))
-  clear-rows (suc n) r c (inr h) = rw (clears-suc n, put-row j (suc (k + n)) _ _ r c (omega arith)) (clear-rows n r c (inr (omega arith)))
-
-module _ {F : Type 0} (K : Field F) where
-  open Field K using (ops as O)
-  open Ops (K .ops) using (nought as 𝟘, one as 𝟙, add as _⊕_, mul as _⊙_, same?)
+module _ (F : Ops) (L : Field F) (m w : ℕ) where
+  open Ops F using (q, add as _⊕_, mul as _⊙_, neg)
 
   infixl 60 _⊕_
   infixl 70 _⊙_
+  -- U has T's relations between columns, and its first j columns are in echelon form with k pivots
+  pub record Shape (T : Table) (p : ℕ → ℕ) (k j : ℕ) (U : Table) : Type 0 where
+    pub keep : Keep F L m w T U
+    pub back : Keep F L m w U T
+    pub form : Echelon F L m w p U k j
+    pub small : Small F U
+
+  pub shape-start : (T : Table) (p : ℕ → ℕ) → Small F T → Shape T p 0 0 T
+  shape-start T p s = record { keep = λ n l v h. h; back = λ n l v h. h; form = start; small = s }
+
   -- the pivot's place stays 0 only if both entries are
-  flag-mixed : (a b : F) → a ⊕ flag O a ⊙ b ≡ 𝟘 → (a ≡ 𝟘) × (b ≡ 𝟘)
-  flag-mixed a b h = elim (same? a 𝟘) [ yes e ↦ (e, simp (e, ring) at (rw (flag-one O a e) at h)) | no n ↦ absurd (n (simp (flag-nought O a n, ring) at h)) ]
+  flag-mixed : {a b : ℕ} → a < q → b < q → a ⊕ flagOf a ⊙ b ≡ 0 → (a ≡ 0) × (b ≡ 0)
+  flag-mixed {a} {b} la lb h = elim (ℕ-discrete a 0) [
+    | yes e ↦ (e, sym (mod-eq-of-lt lb) ∙ (simp ring at (rw (flag-yes e, e) at h)))
+    | no n ↦ absurd (n (sym (mod-eq-of-lt la) ∙ (simp ring at (rw (flag-no n) at h))))
+  ]
 
-  module _ (k j : ℕ) (T : Table F) where
-    -- the pivot's place is 0 after Mix only if the column was 0 from there on
-    pub mix-nought : (n : ℕ) → mixes O k j n T k j ≡ 𝟘 → (r : ℕ) → k ≤ r → r ≤ k + n → T r j ≡ 𝟘
-    mix-nought zero h r p q = let e : r ≡ k = omega arith in rw e (rw mixes-zero at h)
-    mix-nought (suc n) h r p q =
-        let f = flag-mixed _ _ (sym (put-in j k _ (mixes O k j n T) j (omega arith)) ∙ (rw mixes-suc at h)) in
-        elim (ℕ-discrete r (suc (k + n))) [ yes e ↦ sym (mix-rows O k j T n r j (omega arith)) ∙ rw e (f .1) | no e ↦ mix-nought n (f .0) r p (omega arith) ]
+  -- the pivot of row k+1 is sought in column j+1
+  module _ (T : Table) (p : ℕ → ℕ) (k j : ℕ) where
+    -- Mix has met the rows k+1 to s: if the pivot's place is 0, the column is 0 in all of them
+    pub record Sought (s : ℕ) (U : Table) : Type 0 where
+      pub shape : Shape T p k j U
+      pub none : U (suc k) (suc j) ≡ 0 → (r : ℕ) → suc k ≤ r → r ≤ s → U r (suc j) ≡ 0
 
-    pub clear-nought : (n : ℕ) → T k j ≡ 𝟙 → (r : ℕ) → k < r → r ≤ k + n → clears O k j n T r j ≡ 𝟘
-    clear-nought zero one r p q = absurd (omega arith)
-    clear-nought (suc n) one r p q = elim (ℕ-discrete r (suc (k + n))) [
-      | yes e ↦ rw (e, clears-suc O k j T n, put-in j (suc (k + n)) _ (clears O k j n T) j (omega arith), clear-rows O k j T n k j (inl (omega arith)), one, mul-one, add-neg)
-      | no e ↦ rw (clears-suc O k j T n, put-row j (suc (k + n)) _ _ r j e) (clear-nought n one r p (omega arith))
-    ]
+    -- the pivot is 1, and Clear has left 0 in rows k+2 to s
+    pub record Cleared (s : ℕ) (U : Table) : Type 0 where
+      pub shape : Shape T p k j U
+      pub unit : U (suc k) (suc j) ≡ 1
+      pub below : (r : ℕ) → suc k < r → r ≤ s → U r (suc j) ≡ 0
 
-  module _ (m k j : ℕ) (T : Table F) (z : Zeros K m k j T) where
-    pub mix-work : (n : ℕ) → k + n < m → Work K m j T (mixes O k j n T)
-    mix-work zero l = rw mixes-zero (work-refl K m j T)
-    mix-work (suc n) l = let w = mix-work n (omega arith) in
-        rw (mixes-suc O k j T n) (work-trans K m w (add-work K m k j _ (zeros-work K m w z) k (omega arith) (omega arith) (suc (k + n)) (omega arith) (omega arith) (omega arith) _))
+  module _ {T : Table} {p : ℕ → ℕ} {k j : ℕ} (km : suc k ≤ m) (jw : suc j ≤ w) where
+    pub shape-work : {U U′ : Table} → Shape T p k j U → Small F U′ → Work F L m w (suc j) U U′ → Shape T p k j U′
+    shape-work h s x =
+        record {
+          keep = λ n l v g. x .keep n l v (h .keep n l v g);
+          back = λ n l v g. h .back n l v (x .back n l v g);
+          form = ech-ext F L m w (λ i a l. refl) (λ r c a b d l. x .low r c (omega arith) (omega arith)) (h .form);
+          small = s;
+        }
 
-    pub clear-work : (n : ℕ) → k + n < m → Work K m j T (clears O k j n T)
-    clear-work zero l = rw clears-zero (work-refl K m j T)
-    clear-work (suc n) l = let w = clear-work n (omega arith) in
-        rw (clears-suc O k j T n) (work-trans K m w (add-work K m k j _ (zeros-work K m w z) (suc (k + n)) (omega arith) (omega arith) k (omega arith) (omega arith) (omega arith) _))
+    pub sought-start : {U : Table} → Shape T p k j U → Sought T p k j (suc k) U
+    sought-start h = record { shape = h; none = λ e r a b. let g : r ≡ suc k = omega arith in rw g e }
+
+    pub sought-next : {s : ℕ} {U U′ : Table} → suc k ≤ s → s < m → Small F U′ → Mixes m w F (suc k) (suc j) (suc s) U U′ → Sought T p k j s U
+        → Sought T p k j (suc s) U′
+    sought-next {s} {U} {U′} a b small M h =
+        record {
+          shape =
+              shape-work (h .shape) small
+              (add-work F L m w (suc k) (suc j) (h .shape .small) (ech-zeros F L m w p U (h .shape .form)) (omega arith) (suc k) (omega arith) km
+              (suc s) _ (omega arith) (omega arith) (omega arith) M);
+          none = λ e r x y.
+              let f = flag-mixed (h .shape .small (suc k) (suc j)) (h .shape .small (suc s) (suc j)) (sym (M .new (suc j) (omega arith) jw) ∙ e) in
+              elim (ℕ-discrete r (suc k)) [
+                | yes g ↦ rw g e
+                | no g ↦
+                    M .kept r (suc j) (omega arith) (λ i. absurd (g i))
+                    ∙ elim (ℕ-discrete r (suc s)) [ yes i ↦ rw i (f .1) | no i ↦ h .none (f .0) r x (omega arith) ]
+              ];
+        }
+
+    -- the column has no pivot, and is passed over
+    pub sought-pass : {U : Table} → Sought T p k j m U → U (suc k) (suc j) ≡ 0 → Shape T p k (suc j) U
+    sought-pass h e =
+        let s = h .shape in record { keep = s .keep; back = s .back; form = pass (s .form) (h .none e); small = s .small }
+
+    pub cleared-start : {U U′ : Table} → Shape T p k j U → U (suc k) (suc j) ≢ 0 → Small F U′ → Scales m w F (suc k) (suc j) U U′
+        → Cleared T p k j (suc k) U′
+    cleared-start {U} {U′} h n small S =
+        let x : ℕ = U (suc k) (suc j) in
+        let one : x ⊙ inv F x ≡ 1 = mul-inv F L x (λ e. n (sym (mod-eq-of-lt (h .small (suc k) (suc j))) ∙ e)) in
+        record {
+          shape =
+              shape-work h small
+              (scale-work F L m w (suc k) (suc j) (h .small) (ech-zeros F L m w p U (h .form)) (omega arith) (suc k) (omega arith) km (inv F x) x one S);
+          unit = S .new (suc j) (omega arith) jw ∙ mul-comm F L _ _ ∙ one;
+          below = λ r a b. absurd (omega arith);
+        }
+
+    pub cleared-next : {s : ℕ} {U U′ : Table} → suc k ≤ s → s < m → Small F U′ → Clears m w F (suc k) (suc j) (suc s) U U′ → Cleared T p k j s U
+        → Cleared T p k j (suc s) U′
+    cleared-next {s} {U} {U′} a b small C h =
+        record {
+          shape =
+              shape-work (h .shape) small
+              (add-work F L m w (suc k) (suc j) (h .shape .small) (ech-zeros F L m w p U (h .shape .form)) (omega arith) (suc s) (omega arith)
+              (omega arith) (suc k) (neg (U (suc s) (suc j))) (omega arith) km (omega arith)
+              (record { new = λ c x y. C .new c x y ∙ ap (_⊕_ (U (suc s) c)) (sym (neg-mul F L _ _)); kept = C .kept }));
+          unit = C .kept (suc k) (suc j) (omega arith) (λ e. absurd (let z : ⊥ = omega arith in z)) ∙ h .unit;
+          below = λ r x y. elim (ℕ-discrete r (suc s)) [
+            | yes e ↦ rw e (C .new (suc j) (omega arith) jw ∙ rw (h .unit, mul-one F L, mod-eq-of-lt (h .shape .small (suc s) (suc j))) (add-neg F L _))
+            | no e ↦ C .kept r (suc j) (omega arith) (λ i. absurd (e i)) ∙ h .below r x (omega arith)
+          ];
+        }
+
+    -- the pivot is taken
+    pub cleared-taken : {U : Table} → p (suc k) ≡ suc j → Cleared T p k j m U → Shape T p (suc k) (suc j) U
+    cleared-taken e h =
+        let s = h .shape in
+        record { keep = s .keep; back = s .back; form = pivot (s .form) km e (h .unit) (λ r a b. h .below r (omega arith) b); small = s .small }

@@ -2,83 +2,108 @@
 -- Assumes nothing.
 use mathlib.Core.Path.{_≡_, refl, sym, _∙_}
 use Prim.Native.Nat.{ℕ, zero, suc, _<_, _≤_}
+use native.Mathlib.Nat.{mod-eq-of-lt}
 use native.Mathlib.Omega.{arith}
 use native.Mathlib.Decide.{ℕ-discrete}
-use Rattle.algebra.specs.Field.{Ops, dot}
-use Rattle.algebra.specs.Laws.{Field}
-use Rattle.algebra.specs.Linear.{Table, Combines, Free}
-use Rattle.algebra.specs.Solve.{opened}
-use Rattle.algebra.proofs.Arithmetic.{one≢nought, ring, mul-nought, add-assoc, add-neg, neg-add, add-nought, mul-one, mul-comm, dot-zero, dot-suc, dot-ext, dot-nought}
-use Rattle.algebra.proofs.Entries.{opened-at, opened-other, opened-nought}
+use Rattle.field.specs.Field.{Ops, Field}
+use Rattle.algebra.specs.Linear.{Table, combination, Apart}
+use Rattle.algebra.proofs.Arithmetic.{ring, mul-zero, mul-one, mul-comm, add-left, add-neg, sub-back, combination-zero, combination-suc, combination-ext, combination-zeros}
+use Rattle.algebra.proofs.Outcome.{adds}
 use Rattle.algebra.proofs.Rows.{Zeros}
+use Rattle.algebra.proofs.Opened.{less, opened, opened-at, opened-other, opened-zero}
 
-module _ {F : Type 0} (K : Field F) (m : ℕ) where
-  open Field K using (ops as O)
-  open Ops (K .ops) using (nought as 𝟘, one as 𝟙, add as _⊕_, mul as _⊙_, neg)
+module _ (F : Ops) (L : Field F) (m w : ℕ) where
+  open Ops F using (q, add as _⊕_, mul as _⊙_, neg)
 
   infixl 60 _⊕_
   infixl 70 _⊙_
   -- column j is 0 in rows k and up
-  abbrev pub Below : ℕ → ℕ → Table F → Type 0
-  Below k j T = (r : ℕ) → k ≤ r → r < m → T r j ≡ 𝟘
+  abbrev pub Below : ℕ → ℕ → Table → Type 0
+  Below k j T = (r : ℕ) → k ≤ r → r ≤ m → T r j ≡ 0
 
   -- the first j columns are in echelon form, with k pivots, row i's in column p i
-  pub data Echelon (p : ℕ → ℕ) (T : Table F) : ℕ → ℕ → Type 0 where
+  pub data Echelon (p : ℕ → ℕ) (T : Table) : ℕ → ℕ → Type 0 where
     start : Echelon p T zero zero
-    pivot : {k j : ℕ} → Echelon p T k j → k < m → p k ≡ j → T k j ≡ 𝟙 → Below (suc k) j T → Echelon p T (suc k) (suc j)
-    pass : {k j : ℕ} → Echelon p T k j → Below k j T → Echelon p T k (suc j)
+    pivot : {k j : ℕ} → Echelon p T k j → suc k ≤ m → p (suc k) ≡ suc j → T (suc k) (suc j) ≡ 1 → Below (suc (suc k)) (suc j) T
+        → Echelon p T (suc k) (suc j)
+    pass : {k j : ℕ} → Echelon p T k j → Below (suc k) (suc j) T → Echelon p T k (suc j)
 
-  module _ (p : ℕ → ℕ) (T : Table F) where
-    pub ech-zeros : {k j : ℕ} → Echelon p T k j → Zeros K m k j T
-    ech-zeros start r c kr rm l = absurd (omega arith)
-    ech-zeros (pivot {k = k} {j = j} e km pk one b) r c kr rm l = elim (ℕ-discrete c j) [ yes q ↦ rw q (b r kr rm) | no q ↦ ech-zeros e r c (omega arith) rm (omega arith) ]
-    ech-zeros (pass {k = k} {j = j} e b) r c kr rm l = elim (ℕ-discrete c j) [ yes q ↦ rw q (b r kr rm) | no q ↦ ech-zeros e r c kr rm (omega arith) ]
+  module _ (p : ℕ → ℕ) (T : Table) where
+    pub ech-zeros : {k j : ℕ} → Echelon p T k j → Zeros F L m w (suc k) (suc j) T
+    ech-zeros start r c kr rm a l = absurd (omega arith)
+    ech-zeros (pivot {k = k} {j = j} e km pk one b) r c kr rm a l = elim (ℕ-discrete c (suc j)) [
+      | yes h ↦ rw h (b r kr rm)
+      | no h ↦ ech-zeros e r c (omega arith) rm a (omega arith)
+    ]
+    ech-zeros (pass {k = k} {j = j} e b) r c kr rm a l = elim (ℕ-discrete c (suc j)) [
+      | yes h ↦ rw h (b r kr rm)
+      | no h ↦ ech-zeros e r c kr rm a (omega arith)
+    ]
 
     pub ech-le : {k j : ℕ} → Echelon p T k j → k ≤ j
     ech-le start = omega arith
     ech-le (pivot {k = k} {j = j} e km pk one b) = let h : k ≤ j = ech-le e in omega arith
     ech-le (pass {k = k} {j = j} e b) = let h : k ≤ j = ech-le e in omega arith
 
-    pub ech-pivot< : {k j : ℕ} → Echelon p T k j → (i : ℕ) → i < k → p i < j
-    ech-pivot< start i l = absurd (omega arith)
-    ech-pivot< (pivot {k = k} {j = j} e km pk one b) i l = elim (ℕ-discrete i k) [ yes q ↦ rw (q, pk) (omega arith) | no q ↦ let h : p i < j = ech-pivot< e i (omega arith) in omega arith ]
-    ech-pivot< (pass {k = k} {j = j} e b) i l = let h : p i < j = ech-pivot< e i l in omega arith
+    pub ech-pivot : {k j : ℕ} → Echelon p T k j → (i : ℕ) → 1 ≤ i → i ≤ k → p i ≤ j
+    ech-pivot start i a l = absurd (omega arith)
+    ech-pivot (pivot {k = k} {j = j} e km pk one b) i a l = elim (ℕ-discrete i (suc k)) [
+      | yes h ↦ rw (h, pk) (omega arith)
+      | no h ↦ let g : p i ≤ j = ech-pivot e i a (omega arith) in omega arith
+    ]
+    ech-pivot (pass {k = k} {j = j} e b) i a l = let g : p i ≤ j = ech-pivot e i a l in omega arith
 
-    -- the right side that is left when column p k's unknown is known
-    less-nought : (k : ℕ) (b : ℕ → F) → T k (p k) ≡ 𝟙 → Below (suc k) (p k) T → ((r : ℕ) → suc k ≤ r → r < m → b r ≡ 𝟘) → (r : ℕ) → k ≤ r → r < m → b r ⊕ neg (b k ⊙ T r (p k)) ≡ 𝟘
-    less-nought k b one w z r kr l = elim (ℕ-discrete r k) [ yes q ↦ rw (q, one, mul-one, add-neg) | no q ↦ rw (z r (omega arith) l, w r (omega arith) l, mul-nought, add-neg) ]
+    -- the right side that is left when row k's unknown is known
+    less-zero : (k : ℕ) (b : ℕ → ℕ) → T k (p k) ≡ 1 → Below (suc k) (p k) T → ((r : ℕ) → suc k ≤ r → r ≤ m → b r ≡ 0) → (r : ℕ)
+        → k ≤ r → r ≤ m → less F p T k b r ≡ 0
+    less-zero k b one w z r kr l = elim (ℕ-discrete r k) [
+      | yes h ↦ rw (h, one, mul-one F L) (sym (add-left F L (b k) _) ∙ add-neg F L _)
+      | no h ↦ rw (z r (omega arith) l, w r (omega arith) l, mul-zero F L) (add-neg F L 0)
+    ]
 
     -- what is opened solves the system of the first j columns, for a right side that is 0 where no row has a pivot
-    pub opened-solves : {k j : ℕ} → Echelon p T k j → (b : ℕ → F) → ((r : ℕ) → k ≤ r → r < m → b r ≡ 𝟘) → (r : ℕ) → r < m → dot O j (T r) (opened O p T k b) ≡ b r
-    opened-solves start b z r l = dot-zero K _ _ ∙ sym (z r (omega arith) l)
-    opened-solves (pass {k = k} {j = j} e w) b z r l = dot-suc K j _ _ ∙
-        simp (opened-nought O p T k b j (λ i s q. let h : p i < j = ech-pivot< e i s in omega arith), opened-solves e b z r l, ring)
-    opened-solves (pivot {k = k} {j = j} e km pk one w) b z r l = dot-suc K j _ _ ∙
-        rw (
-          opened-at O p T k b j (sym pk),
-          dot-ext K j (T r) (T r) _ _ (λ c _. refl) (λ c s. opened-other O p T k b c (λ q. let h : c ≡ j = q ∙ pk in omega arith)),
-          opened-solves e (λ r. b r ⊕ neg (b k ⊙ T r (p k))) (less-nought k b (rw pk one) (rw pk w) z) r l,
+    pub opened-solves : {k j : ℕ} → Echelon p T k j → (b : ℕ → ℕ) → ((r : ℕ) → b r < q) → ((r : ℕ) → suc k ≤ r → r ≤ m → b r ≡ 0)
+        → (r : ℕ) → 1 ≤ r → r ≤ m → combination F (T r) (opened F p T k b) j ≡ b r
+    opened-solves start b small z r a l = combination-zero F L _ _ ∙ sym (z r (omega arith) l)
+    opened-solves (pass {k = k} {j = j} e w) b small z r a l =
+        combination-suc F L j _ _
+        ∙ rw (opened-zero F p T k b (suc j) (λ i x y h. let g : p i ≤ j = ech-pivot e i x y in omega arith), opened-solves e b small z r a l)
+        (simp ring (mod-eq-of-lt (small r)))
+    opened-solves (pivot {k = k} {j = j} e km pk one w) b small z r a l =
+        combination-suc F L j _ _
+        ∙ rw (
+          opened-at F p T k b (suc j) (sym pk),
+          combination-ext F L j (T r) (T r) _ _ (λ c _ _. refl) (λ c x y. opened-other F p T k b c (λ h. let g : c ≡ suc j = h ∙ pk in omega arith)),
+          opened-solves e (less F p T (suc k) b) (λ r. L .ring .add-lt _ _) (less-zero (suc k) b (rw pk one) (rw pk w) z) r a l,
           pk,
-        ) (rw (mul-comm K (T r j) (b k), add-assoc, neg-add, add-nought))
+        ) (rw (mul-comm F L (T r (suc j)) (b (suc k))) (sub-back F L _ _) ∙ mod-eq-of-lt (small r))
 
     -- a pivot's column is no combination of the columns before it
-    pub pivot-free : {k j : ℕ} → Echelon p T k j → k < m → T k j ≡ 𝟙 → Free O m T j
-    pivot-free {k} {j} e km one v h = one≢nought K (cc (h k km, dot-nought K j (T k) v (λ c l. ech-zeros e k c (omega arith) km l)))
-
-    -- a column that is 0 in the rows without a pivot is one
-    pub pass-combines : {k j : ℕ} → Echelon p T k j → Below k j T → Combines O m T j (opened O p T k (λ r. T r j))
-    pass-combines {k} {j} e w = opened-solves e (λ r. T r j) w
+    pivot-apart : {k j : ℕ} → Echelon p T k j → suc k ≤ m → T (suc k) (suc j) ≡ 1 → Apart F m T (suc j)
+    pivot-apart {k} {j} e km one v h =
+        let z : _≡_ {A = ℕ} 0 1 =
+        sym (combination-zeros F L j (T (suc k)) v (λ c a l. ech-zeros e (suc k) c (omega arith) km a (omega arith)))
+        ∙ adds F m T refl h (suc k) (omega arith) km ∙ one in
+        omega arith
 
     -- as many pivots as columns: none combines
-    pub all-free : {k j : ℕ} → Echelon p T k j → j ≤ k → (c : ℕ) → c < j → Free O m T c
-    all-free start h c l = absurd (omega arith)
-    all-free (pivot {k = k} {j = j} e km pk one w) h c l = elim (ℕ-discrete c j) [ yes q ↦ rw q (pivot-free e km one) | no q ↦ all-free e (omega arith) c (omega arith) ]
-    all-free (pass {k = k} {j = j} e w) h c l = let g : k ≤ j = ech-le e in absurd (omega arith)
+    pub all-apart : {k j : ℕ} → Echelon p T k j → j ≤ k → (c : ℕ) → 1 ≤ c → c ≤ j → Apart F m T c
+    all-apart start h c a l = absurd (omega arith)
+    all-apart (pivot {k = k} {j = j} e km pk one w) h c a l = elim (ℕ-discrete c (suc j)) [
+      | yes g ↦ rw g (pivot-apart e km one)
+      | no g ↦ all-apart e (omega arith) c a (omega arith)
+    ]
+    all-apart (pass {k = k} {j = j} e w) h c a l = let g : k ≤ j = ech-le e in absurd (omega arith)
 
-  -- only the columns before j, in the m rows, and the places of the k pivots matter
-  pub ech-ext : {p q : ℕ → ℕ} {T U : Table F} {k j : ℕ} → ((i : ℕ) → i < k → q i ≡ p i) → ((r c : ℕ) → r < m → c < j → U r c ≡ T r c) → Echelon p T k j → Echelon q U k j
+  -- only the first j columns, in the m rows, and the places of the k pivots matter
+  pub ech-ext : {p p′ : ℕ → ℕ} {T U : Table} {k j : ℕ} → ((i : ℕ) → 1 ≤ i → i ≤ k → p′ i ≡ p i)
+      → ((r c : ℕ) → 1 ≤ r → r ≤ m → 1 ≤ c → c ≤ j → U r c ≡ T r c) → Echelon p T k j → Echelon p′ U k j
   ech-ext hp h start = start
-  ech-ext hp h (pivot {k = k} {j = j} e km pk one w) =
-      pivot (ech-ext (λ i l. hp i (omega arith)) (λ r c rm l. h r c rm (omega arith)) e) km (hp k (omega arith) ∙ pk) (h k j km (omega arith) ∙ one) (λ r kr rm. h r j rm (omega arith) ∙ w r kr rm)
-  ech-ext hp h (pass {k = k} {j = j} e w) =
-      pass (ech-ext hp (λ r c rm l. h r c rm (omega arith)) e) (λ r kr rm. h r j rm (omega arith) ∙ w r kr rm)
+  ech-ext hp h (pivot {k = k} {j = j} e km pk one b) =
+      pivot (ech-ext (λ i a l. hp i a (omega arith)) (λ r c a rm d l. h r c a rm d (omega arith)) e) km
+      (hp (suc k) (omega arith) (omega arith) ∙ pk)
+      (h (suc k) (suc j) (omega arith) km (omega arith) (omega arith) ∙ one)
+      (λ r kr rm. h r (suc j) (omega arith) rm (omega arith) (omega arith) ∙ b r kr rm)
+  ech-ext hp h (pass {k = k} {j = j} e b) =
+      pass (ech-ext hp (λ r c a rm d l. h r c a rm d (omega arith)) e)
+      (λ r kr rm. h r (suc j) (omega arith) rm (omega arith) (omega arith) ∙ b r kr rm)

@@ -1,11 +1,8 @@
 pub mod Arithmetic
 pub mod Outcome
-pub mod Entries
 pub mod Rows
+pub mod Opened
 pub mod Echelon
 pub mod Column
-pub mod Shape
 pub mod Square
-pub mod StepList
-pub mod Bounded
-pub mod Numbers
+pub mod Independent

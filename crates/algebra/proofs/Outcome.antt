@@ -1,98 +1,158 @@
--- At most one outcome is a table's, and it depends on the table's values in its rows and columns only.
+-- At most one answer is true of a table, and it depends on the table's values in its rows and columns only.
 -- Assumes nothing.
 use mathlib.Core.Path.{_≡_, refl, sym, _∙_, _≡⟨_⟩_, _∎}
-use mathlib.Core.Logic.{_≢_, _⊎_, inl, inr}
-use Prim.Native.Nat.{ℕ, zero, suc, _<_, _≤_}
+use mathlib.Core.Logic.{_⊎_, inl, inr}
+use Prim.Native.Nat.{ℕ, zero, suc, _+_, _-_, _%_, _<_, _≤_}
+use native.Mathlib.Nat.{mod-eq-of-lt}
 use native.Mathlib.Omega.{arith}
 use native.Mathlib.Decide.{ℕ-discrete, decLt}
-use Rattle.algebra.specs.Field.{Ops, dot}
-use Rattle.algebra.specs.Laws.{Field}
-use Rattle.algebra.specs.Linear.{Table, Outcome, solved, stopped, Combines, Free, Is, Agree, Alike}
-use Rattle.algebra.proofs.Arithmetic.{mul-inv, minus-nought, mul-comm, mul-neg, neg-mul, mul-add, ring, add-neg, cancel-right, dot-suc, dot-lin, dot-comm, dot-zero, dot-ext}
+use Rattle.field.specs.Field.{Ops, Field, inv}
+use Rattle.field.proofs.Inverses.{mul-inv}
+use Rattle.algebra.specs.Linear.{Table, combination, Combines, Apart, IsSolved, IsStopped}
+use Rattle.algebra.proofs.Arithmetic.{ring, add-neg, mul-add, mul-comm, mul-neg, neg-mul, mul-right, sub-back, zero-add, cancel-right, combination-zero, combination-suc, combination-lt, combination-lin, combination-ext, combination-comm}
 
-module _ {F : Type 0} (K : Field F) (m : ℕ) (T : Table F) where
-  open Field K using (ops as O)
-  open Ops (K .ops) using (nought as 𝟘, one as 𝟙, add as _⊕_, mul as _⊙_, neg, inv, same?)
+module _ (F : Ops) (m : ℕ) (T : Table) where
+  -- the first n columns combine to the next
+  abbrev pub Adds : ℕ → (ℕ → ℕ) → Type 0
+  Adds n v = (r : ℕ) → 1 ≤ r → r ≤ m → combination F (T r) v n ≡ T r (suc n)
+
+  pub combines : {n j : ℕ} {v : ℕ → ℕ} → j ≡ suc n → Adds n v → Combines F m T j v
+  combines {n} {j} e h = record { holds = λ r a b. let d : j - 1 ≡ n = omega arith in rw (d, e) (h r a b) }
+
+  pub adds : {n j : ℕ} {v : ℕ → ℕ} → j ≡ suc n → Combines F m T j v → Adds n v
+  adds {n} {j} e h r a b = let d : j - 1 ≡ n = omega arith in rw (d, e) at (h .holds r a b)
+
+  pub solved-once : {x y : ℕ → ℕ} → IsSolved F m T x → IsSolved F m T y → (c : ℕ) → 1 ≤ c → c ≤ m → x c ≡ y c
+  solved-once {y = y} h g c a b = sym (h .only y (g .solves) c a b) ∙ g .only y (g .solves) c a b
+
+  pub not-both : {x : ℕ → ℕ} {j : ℕ} → IsSolved F m T x → IsStopped F m T j → ⊥
+  not-both {j = j} h g = h .independent j (g .low) (g .high) (g .factors) (g .combines)
+
+  pub stopped-once : {i j : ℕ} → IsStopped F m T i → IsStopped F m T j → i ≡ j
+  stopped-once {i} {j} h g = elim (ℕ-discrete i j) [
+    | yes e ↦ e
+    | no n ↦ elim (decLt i j) [
+      | yes l ↦ absurd (g .first i (h .low) l (h .factors) (h .combines))
+      | no k ↦ absurd (h .first j (g .low) (omega arith) (g .factors) (g .combines))
+    ]
+  ]
+
+  -- "No columns at all combine only to the zero column, so column 1 stops exactly when it is zero"
+  pub first-stops : Field F → 1 ≤ m → ((r : ℕ) → 1 ≤ r → r ≤ m → T r 1 ≡ 0) → IsStopped F m T 1
+  first-stops L l h =
+      record {
+        low = omega arith;
+        high = l;
+        factors = λ c. 0;
+        combines = combines refl (λ r a b. combination-zero F L (T r) (λ c. 0) ∙ sym (h r a b));
+        first = λ i a b. absurd (omega arith);
+      }
+
+  pub first-stopped : Field F → IsStopped F m T 1 → (r : ℕ) → 1 ≤ r → r ≤ m → T r 1 ≡ 0
+  first-stopped L h r a b = sym (adds refl (h .combines) r a b) ∙ combination-zero F L (T r) (h .factors)
+
+-- one value in each entry of a system of size m
+abbrev pub Alike : ℕ → Table → Table → Type 0
+Alike m T U = (r c : ℕ) → 1 ≤ r → r ≤ m → 1 ≤ c → c ≤ m + 1 → T r c ≡ U r c
+
+module _ (F : Ops) (L : Field F) (m : ℕ) where
+  alike-back : {T U : Table} → Alike m T U → Alike m U T
+  alike-back e r c a b d g = sym (e r c a b d g)
+
+  module _ {T U : Table} (e : Alike m T U) where
+    combines-alike : (j : ℕ) → 1 ≤ j → j ≤ m + 1 → (v : ℕ → ℕ) → Combines F m T j v → Combines F m U j v
+    combines-alike j a b v h =
+        record {
+          holds = λ r x y.
+              combination-ext F L (j - 1) (U r) (T r) v v (λ c k l. sym (e r c x y k (omega arith))) (λ c k l. refl)
+              ∙ h .holds r x y ∙ e r j x y a b;
+        }
+
+  module _ {T U : Table} (e : Alike m T U) where
+    pub solved-alike : {x : ℕ → ℕ} → IsSolved F m T x → IsSolved F m U x
+    solved-alike {x} h =
+        record {
+          independent = λ j a b v g. h .independent j a b v (combines-alike (alike-back e) j a (omega arith) v g);
+          solves = combines-alike e (m + 1) (omega arith) (omega arith) x (h .solves);
+          only = λ y g. h .only y (combines-alike (alike-back e) (m + 1) (omega arith) (omega arith) y g);
+        }
+
+    pub stopped-alike : {j : ℕ} → IsStopped F m T j → IsStopped F m U j
+    stopped-alike {j} h =
+        record {
+          low = h .low;
+          high = h .high;
+          factors = h .factors;
+          combines = combines-alike e j (h .low) (omega (arith, h .high)) (h .factors) (h .combines);
+          first = λ i a b v g. h .first i a b v (combines-alike (alike-back e) i a (omega (arith, h .high)) v g);
+        }
+
+-- every entry is an element
+abbrev pub Small : Ops → Table → Type 0
+Small F T = (r c : ℕ) → T r c < F .q
+
+module _ (F : Ops) (L : Field F) (m : ℕ) (T : Table) (small : Small F T) where
+  open Ops F using (q, add as _⊕_, mul as _⊙_, neg)
 
   infixl 60 _⊕_
   infixl 70 _⊙_
   -- what `differ` needs in one row: t is the last entry, A and B are the sums of the others, u and u' are factors that take x - y to 1
-  solve-last : (u u' A B t x y : F) → u ⊕ u' ≡ 𝟘 → B ⊕ t ⊙ x ≡ A ⊕ t ⊙ y → u ⊙ x ⊕ u' ⊙ y ≡ 𝟙 → u ⊙ A ⊕ u' ⊙ B ≡ t
+  solve-last : (u u' A B t x y : ℕ) → u ⊕ u' ≡ 0 → B ⊕ t ⊙ x ≡ A ⊕ t ⊙ y → u ⊙ x ⊕ u' ⊙ y ≡ 1 → u ⊙ A ⊕ u' ⊙ B ≡ t % q
   solve-last u u' A B t x y z e o =
       u ⊙ A ⊕ u' ⊙ B ≡⟨ (simp (z, ring)) ⟩
       u ⊙ A ⊕ u' ⊙ B ⊕ (u ⊕ u') ⊙ (t ⊙ x) ≡⟨ (simp ring) ⟩
       u ⊙ A ⊕ u' ⊙ (B ⊕ t ⊙ x) ⊕ u ⊙ (t ⊙ x) ≡⟨ (rw e) ⟩
       u ⊙ A ⊕ u' ⊙ (A ⊕ t ⊙ y) ⊕ u ⊙ (t ⊙ x) ≡⟨ (simp ring) ⟩
       (u ⊕ u') ⊙ A ⊕ t ⊙ (u ⊙ x ⊕ u' ⊙ y) ≡⟨ (rw (z, o) (simp ring)) ⟩
-      t ∎
+      t % q ∎
+
+  minus-zero : (a b : ℕ) → (a ⊕ neg b) % q ≡ 0 → a % q ≡ b % q
+  minus-zero a b e = sym (sub-back F L a b) ∙ rw (sym (mod-eq-of-lt (L .ring .add-lt a (neg b))) ∙ e) (zero-add F L b)
 
   -- two vectors with one product in every row, and different at the last column: that column combines
-  differ : (n : ℕ) (x y : ℕ → F) → ((r : ℕ) → r < m → dot O (suc n) (T r) x ≡ dot O (suc n) (T r) y) → x n ≢ y n → (v : ℕ → F) × Combines O m T n v
-  differ n x y e ne = (
-    v,
-    λ r l. dot-comm K n (T r) v ∙ dot-lin K n u (neg u) y x v (T r) (λ c _. refl) ∙ rw (dot-comm K n y (T r), dot-comm K n x (T r))
-        (solve-last u (neg u) _ _ (T r n) (x n) (y n) (add-neg K u) (simp dot-suc at (e r l)) unit),
-  )
+  module _ (n : ℕ) (x y : ℕ → ℕ) (e : (r : ℕ) → 1 ≤ r → r ≤ m → combination F (T r) x (suc n) ≡ combination F (T r) y (suc n))
+      (ne : x (suc n) % q ≡ y (suc n) % q → ⊥) where
+    u : ℕ
+    u = inv F (x (suc n) ⊕ neg (y (suc n)))
+
+    quotients : ℕ → ℕ
+    quotients c = u ⊙ y c ⊕ neg u ⊙ x c
+
+    unit : u ⊙ x (suc n) ⊕ neg u ⊙ y (suc n) ≡ 1
+    unfolding u
+    unit =
+        rw (neg-mul F L u (y (suc n)), ← (mul-neg F L u (y (suc n))), ← (mul-add F L u (x (suc n)) (neg (y (suc n)))), mul-comm F L u (x (suc n) ⊕ neg (y (suc n))))
+        (mul-inv F L _ (λ z. ne (minus-zero _ _ z)))
+
+    differ : Adds F m T n quotients
+    unfolding quotients
+    differ r a b =
+        combination-comm F L n (T r) quotients ∙ combination-lin F L n u (neg u) y x quotients (T r) (λ c _ _. refl)
+        ∙ rw (combination-comm F L n y (T r), combination-comm F L n x (T r))
+        (solve-last u (neg u) _ _ (T r (suc n)) (x (suc n)) (y (suc n)) (add-neg F L u) (simp combination-suc at (e r a b)) unit)
+        ∙ mod-eq-of-lt (small r (suc n))
+
+  -- Two vectors with one product in every row are equal where the columns are apart, if they are equal at the others.
+  pub same : (n : ℕ) (x y : ℕ → ℕ) → ((r : ℕ) → 1 ≤ r → r ≤ m → combination F (T r) x n ≡ combination F (T r) y n)
+      → ((c : ℕ) → 1 ≤ c → c ≤ n → (x c % q ≡ y c % q) ⊎ Apart F m T c) → (c : ℕ) → 1 ≤ c → c ≤ n → x c % q ≡ y c % q
+  same zero x y e h c a b = absurd (omega arith)
+  same (suc n) x y e h c a b = elim (ℕ-discrete c (suc n)) [
+    | yes k ↦ rw k last
+    | no k ↦ same n x y low (λ i g l. h i g (omega arith)) c a (omega arith)
+  ]
     where
-      u : F
-      u = inv (x n ⊕ neg (y n))
+      last : x (suc n) % q ≡ y (suc n) % q
+      last = elim (h (suc n) (omega arith) (omega arith)) [
+        | inl p ↦ p
+        | inr apart ↦ elim (ℕ-discrete (x (suc n) % q) (y (suc n) % q)) [
+          | yes p ↦ p
+          | no p ↦ absurd (apart (quotients n x y e p) (combines F m T refl (differ n x y e p)))
+        ]
+      ]
 
-      v : ℕ → F
-      v c = u ⊙ y c ⊕ neg u ⊙ x c
-
-      unit : u ⊙ x n ⊕ neg u ⊙ y n ≡ 𝟙
-      unit = rw (neg-mul K u (y n), ← (mul-neg K u (y n)), ← (mul-add K u (x n) (neg (y n))), mul-comm K u (x n ⊕ neg (y n))) (mul-inv K _ (λ z. ne (minus-nought K _ _ z)))
-
-  -- Two vectors with one product in every row are equal where the columns are free, if they are equal at the others.
-  pub same : (n : ℕ) (x y : ℕ → F) → ((r : ℕ) → r < m → dot O n (T r) x ≡ dot O n (T r) y) → ((c : ℕ) → c < n → (x c ≡ y c) ⊎ Free O m T c)
-      → (c : ℕ) → c < n → x c ≡ y c
-  same zero x y e h c l = absurd (omega arith)
-  same (suc n) x y e h c l = elim (ℕ-discrete c n) [ yes q ↦ rw q last | no q ↦ same n x y low (λ i k. h i (omega arith)) c (omega arith) ]
-    where
-      last : x n ≡ y n
-      last = elim (h n (omega arith)) [ inl p ↦ p | inr free ↦ elim (same? (x n) (y n)) [ yes p ↦ p | no p ↦ absurd (free (differ n x y e p .0) (differ n x y e p .1)) ] ]
-
-      low : (r : ℕ) → r < m → dot O n (T r) x ≡ dot O n (T r) y
-      low r k = cancel-right K (T r n ⊙ y n) (rw last at (simp dot-suc at (e r k)))
-
-  -- Whatever outcomes are a table's, they say the same.
-  pub unique : (a b : Outcome F) → Is O m T a → Is O m T b → Agree m a b
-  unique (solved x) (solved y) p q = same m x y (λ r l. p .1 r l ∙ sym (q .1 r l)) (λ c l. inr (p .0 c l))
-  unique (solved x) (stopped j) p q = p .0 j (q .0) (q .1 .0) (q .1 .1)
-  unique (stopped i) (solved y) p q = q .0 i (p .0) (p .1 .0) (p .1 .1)
-  unique (stopped i) (stopped j) p q = elim (ℕ-discrete i j) [ yes e ↦ e | no n ↦ elim (decLt i j) [ yes l ↦ absurd (q .2 i l (p .1 .0) (p .1 .1)) | no l ↦ absurd (p .2 j (omega arith) (q .1 .0) (q .1 .1)) ] ]
-
-  -- an outcome that agrees with the table's is the table's
-  pub is-agree : (a b : Outcome F) → Agree m a b → Is O m T a → Is O m T b
-  is-agree (solved x) (solved y) e h = (h .0, λ r l. sym (dot-ext K m (T r) (T r) x y (λ c _. refl) e) ∙ h .1 r l)
-  is-agree (solved x) (stopped j) e h = absurd e
-  is-agree (stopped i) (solved y) e h = absurd e
-  is-agree (stopped i) (stopped j) e h = rw e at h
-
-  -- "column 1 stops exactly when it is zero"
-  pub first-stops : 0 < m → ((r : ℕ) → r < m → T r 0 ≡ 𝟘) → Is O m T (stopped 0)
-  first-stops l h = (l, (λ c. 𝟘, λ r s. dot-zero K _ _ ∙ sym (h r s)), λ i t. absurd (omega arith))
-
-  pub first-stopped : Is O m T (stopped 0) → (r : ℕ) → r < m → T r 0 ≡ 𝟘
-  first-stopped h r s = sym (h .1 .1 r s) ∙ dot-zero K _ _
-
-module _ {F : Type 0} (K : Field F) (m : ℕ) where
-  open Field K using (ops as O)
-
-  alike-back : {T U : Table F} → Alike m T U → Alike m U T
-  alike-back e r c l s = sym (e r c l s)
-
-  combines-alike : {T U : Table F} → Alike m T U → (j : ℕ) → j ≤ m → (v : ℕ → F) → Combines O m T j v → Combines O m U j v
-  combines-alike {T} {U} e j l v h r s = sym (dot-ext K j (T r) (U r) v v (λ c t. e r c s (omega arith)) (λ c _. refl)) ∙ h r s ∙ e r j s l
-
-  is-alike : {T U : Table F} → Alike m T U → (a : Outcome F) → Is O m T a → Is O m U a
-  is-alike e (solved x) h = (λ j l v g. h .0 j l v (combines-alike (alike-back e) j (omega arith) v g), combines-alike e m (omega arith) x (h .1))
-  is-alike e (stopped j) h = (
-    h .0,
-    (h .1 .0, combines-alike e j (omega (arith, h .0)) (h .1 .0) (h .1 .1)),
-    λ i l v g. h .2 i l v (combines-alike (alike-back e) i (omega (arith, h .0)) v g),
-  )
-
-  -- The same of two tables with the same values: the answer depends on nothing else.
-  pub answer-unique : (T U : Table F) → Alike m T U → (a b : Outcome F) → Is O m T a → Is O m U b → Agree m a b
-  answer-unique T U e a b p q = unique K m U a b (is-alike e a p) q
+      low : (r : ℕ) → 1 ≤ r → r ≤ m → combination F (T r) x n ≡ combination F (T r) y n
+      low r g l =
+          sym (mod-eq-of-lt (combination-lt F L n (T r) x))
+          ∙ cancel-right F L (T r (suc n) ⊙ y (suc n))
+          (rw (← (mul-right F L (T r (suc n)) (x (suc n))), last, mul-right F L (T r (suc n)) (y (suc n))) at (simp combination-suc at (e r g l)))
+          ∙ mod-eq-of-lt (combination-lt F L n (T r) y)

@@ -1,52 +1,62 @@
--- The square elimination gives the one outcome of its table, whichever way it brings its pivots.
+-- The answer of a square system, from the table that its elimination leaves: row i has column i's pivot, and the last column is m+1.
 -- Assumes nothing.
-use mathlib.Core.Path.{_≡_, refl}
-use Prim.Native.Nat.{ℕ, zero, suc, _<_, _≤_}
+use mathlib.Core.Path.{_≡_, refl, sym, ap, _∙_}
+use mathlib.Core.Logic.{inr}
+use Prim.Native.Nat.{ℕ, zero, suc, _+_, _≤_}
+use native.Mathlib.Nat.{mod-eq-of-lt}
+use native.Mathlib.Numerals.{add-one}
 use native.Mathlib.Omega.{arith}
-use Rattle.algebra.specs.Field.{Ops}
-use Rattle.algebra.specs.Laws.{Field}
-use Rattle.algebra.specs.Linear.{Table, Is}
-use Rattle.algebra.specs.StepList.{Run, going, halted}
-use Rattle.algebra.specs.Solve.{Way, decide, next, run, conclude, answer}
-use Rattle.algebra.proofs.Echelon.{Below, all-free, opened-solves, pass-combines}
-use Rattle.algebra.proofs.Shape.{Sound, Shape, shape-start, shape-zeros, shape-work, shape-take}
+use Rattle.field.specs.Field.{Ops, Field}
+use Rattle.algebra.specs.Linear.{Table, Apart, IsSolved, IsStopped}
+use Rattle.algebra.proofs.Arithmetic.{combination-ext}
+use Rattle.algebra.proofs.Outcome.{Adds, adds, combines, Small, same}
+use Rattle.algebra.proofs.Opened.{opened, opened-lt}
+use Rattle.algebra.proofs.Echelon.{opened-solves, all-apart}
+use Rattle.algebra.proofs.Column.{Shape, Sought}
 
-module _ {F : Type 0} (K : Field F) (m : ℕ) where
-  open Field K using (ops as O)
-  open Ops (K .ops) using (nought as 𝟘, same?)
+-- row i has the pivot of column i
+abbrev pub own : ℕ → ℕ
+own i = i
 
-  -- how the run stands before column j
-  data Stands (T : Table F) (j : ℕ) : Run F → Type 0 where
-    on : {U : Table F} → Shape K m T (λ i. i) j j U → Stands T j (going U)
-    off : {i : ℕ} {U : Table F} → i < j → Shape K m T (λ i. i) i i U → Below K m i i U → Stands T j (halted i U)
+module _ (F : Ops) (L : Field F) (m : ℕ) {T U : Table} where
+  -- the columns of the pivots are apart
+  shape-apart : {j : ℕ} → j ≤ m → Shape F L m (m + 1) T own j j U → (c : ℕ) → 1 ≤ c → c ≤ j → Apart F m T c
+  shape-apart {j} l h (suc c) a b v g =
+      all-apart F L m (m + 1) own U (h .form) (omega arith) (suc c) a b v
+      (combines F m U refl (h .keep c (omega arith) v (adds F m T refl g)))
+  shape-apart l h zero a b v g = absurd (omega arith)
 
-  module _ (P : Way O) (sound : Sound K m P) (T : Table F) where
-    stands-check : {j : ℕ} {M : Table F} → j < m → Shape K m T (λ i. i) j j M → (M j j ≡ 𝟘 → Below K m j j M) → (d : Dec (M j j ≡ 𝟘)) → Stands T (suc j) (decide O m j M d)
-    stands-check {j} l s b (yes h) = off {i = j} (omega arith) s (b h)
-    stands-check l s b (no n) = on (shape-take K m s l n (λ i _. refl) refl)
+  -- column j+1 has no pivot
+  pub stopped-at : {j : ℕ} → suc j ≤ m → Sought F L m (m + 1) T own j j m U → U (suc j) (suc j) ≡ 0 → IsStopped F m T (suc j)
+  stopped-at {j} l h e =
+      let b : ℕ → ℕ = λ r. U r (suc j) in
+      record {
+        low = omega arith;
+        high = l;
+        factors = opened F own U j b;
+        combines =
+            combines F m T refl
+            (h .shape .back j (omega arith) _ (opened-solves F L m (m + 1) own U (h .shape .form) b (λ r. h .shape .small r (suc j)) (h .none e)));
+        first = λ i a k. shape-apart (omega arith) (h .shape) i a (omega arith);
+      }
 
-    stands-next : {j : ℕ} {x : Run F} → j < m → Stands T j x → Stands T (suc j) (next O m P j x)
-    stands-next {j} l (on {U = U} s) =
-        let b = sound j j U (shape-zeros K m s) l in
-        stands-check l (shape-work K m s (λ i _. refl) b.work) b.none (same? (P j j U j j) 𝟘)
-    stands-next l (off {i = i} h s b) = off {i = i} (omega arith) s b
-
-    stands : (j : ℕ) → j ≤ m → Stands T j (run O m P j T)
-    unfolding run
-    stands zero l = on (shape-start K m T _)
-    stands (suc j) l = stands-next (omega arith) (stands j (omega arith))
-
-    concluded : {x : Run F} → Stands T m x → Is O m T (conclude O m x)
-    concluded (on {U = U} s) = (
-      λ j l v h. all-free K m _ U s.form (omega arith) j l v (s.work .keep j v h),
-      s.work .back m _ (opened-solves K m _ U s.form (λ r. U r m) (λ r p q. absurd (omega arith))),
-    )
-    concluded (off {i = i} {U = U} l s b) = (
-      l,
-      (_, s.work .back i _ (pass-combines K m _ U s.form b)),
-      λ c t v h. all-free K m _ U s.form (omega arith) c t v (s.work .keep c v h),
-    )
-
-    -- The elimination's answer is the outcome of its table.
-    pub solves : Is O m T (answer O m P T)
-    solves = concluded (stands m (omega arith))
+  -- every column has its pivot, and x has the unknowns that are opened
+  pub solved-with : Small F T → Shape F L m (m + 1) T own m m U → {x : ℕ → ℕ}
+      → ((c : ℕ) → 1 ≤ c → c ≤ m → x c ≡ opened F own U m (λ r. U r (m + 1)) c) → IsSolved F m T x
+  solved-with small h {x} e =
+      record {
+        independent = shape-apart (omega arith) h;
+        solves = combines F m T (omega arith) solves;
+        only = λ y g c a b.
+            same F L m T small m y x (λ r k l. adds F m T (omega arith) g r k l ∙ sym (solves r k l))
+            (λ c k l. inr (shape-apart (omega arith) h c k l)) c a b
+            ∙ rw (e c a b) (mod-eq-of-lt (opened-lt F own L U m _ (λ r. h .small r (m + 1)) c));
+      }
+    where
+      solves : Adds F m T m x
+      solves r k l =
+          let b : ℕ → ℕ = λ r. U r (m + 1) in
+          combination-ext F L m (T r) (T r) x (opened F own U m b) (λ c _ _. refl) e
+          ∙ h .back m (omega arith) _
+          (λ i x y. opened-solves F L m (m + 1) own U (h .form) b (λ r. h .small r (m + 1)) (λ r x y. absurd (omega arith)) i x y ∙ ap (U i) (add-one m))
+          r k l

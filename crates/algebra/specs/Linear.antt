@@ -1,44 +1,43 @@
--- What the solver's answer means: combinations of columns, and the one outcome of a table of values.
--- Rows and columns count from 0 here, from 1 in the paper: T = [A | b] has rows 0 to m-1, the unknowns' columns 0 to m-1, and b in column m.
+-- What the answer of a system of m equations means: combinations of columns, and what "solved with x" and "stopped at j" say of its values.
+-- Rows and columns are numbered from 1: T = [A | b] has the unknowns' columns 1 to m, and b in column m+1.
 -- Assumes nothing.
 use mathlib.Core.Path.{_≡_}
-use Prim.Native.Nat.{ℕ, _<_, _≤_}
-use Rattle.algebra.specs.Field.{Ops, dot}
+use Prim.Native.Nat.{ℕ, zero, suc, _+_, _-_, _%_, _≤_, _<_}
+use Rattle.field.specs.Field.{Ops}
 
--- row, then column
-abbrev pub Table : Type 0 → Type 0
-Table F = ℕ → ℕ → F
+-- values by row, then column
+abbrev pub Table : Type 0
+Table = ℕ → ℕ → ℕ
 
--- one value in each entry of a system of size m
-abbrev pub Alike : {F : Type 0} → ℕ → Table F → Table F → Type 0
-Alike m T U = (r c : ℕ) → r < m → c ≤ m → T r c ≡ U r c
+-- a_1·v_1 + .. + a_k·v_k
+unfoldable pub combination : Ops → (ℕ → ℕ) → (ℕ → ℕ) → ℕ → ℕ
+combination F a v zero = 0
+combination F a v (suc k) = F .add (combination F a v k) (F .mul (a (suc k)) (v (suc k)))
 
--- "the answer is solved or stopped(j)"
-pub data Outcome (F : Type 0) : Type 0 where
-  solved : (ℕ → F) → Outcome F
-  stopped : ℕ → Outcome F
+module _ (F : Ops) (m : ℕ) (T : Table) where
+  -- in each of the m equations the columns before column j, taken with the factors v, add up to column j
+  pub record Combines (j : ℕ) (v : ℕ → ℕ) : Type 0 where
+    pub holds : (r : ℕ) → 1 ≤ r → r ≤ m → combination F (T r) v (j - 1) ≡ T r j
 
-module _ {F : Type 0} (O : Ops F) (m : ℕ) (T : Table F) where
-  -- In each of the m rows the columns before j, taken with the factors v, add up to column j.
-  -- For j = m these are the equations: v solves A·x = b.
-  -- For j = 0 nothing is added: "No columns at all combine only to the zero column, so column 1 stops exactly when it is zero."
-  abbrev pub Combines : ℕ → (ℕ → F) → Type 0
-  Combines j v = (r : ℕ) → r < m → dot O j (T r) v ≡ T r j
+  -- the columns before column j do not combine to it
+  abbrev pub Apart : ℕ → Type 0
+  Apart j = (v : ℕ → ℕ) → Combines j v → ⊥
 
-  -- no factors do that: column j is no combination of the columns before it
-  abbrev pub Free : ℕ → Type 0
-  Free j = (v : ℕ → F) → ¬ (Combines j v)
+  -- x solves the equations: the columns 1..m, taken with it, add up to b
+  abbrev pub Solves : (ℕ → ℕ) → Type 0
+  Solves x = Combines (m + 1) x
 
-  -- Solved with x: no unknown's column is a combination of those before it, and x solves the equations.
+  -- solved with x: the columns are independent, x solves the equations, and no other x does.
   -- (Without the first, a singular system would count as solved "because b happens to fit".)
-  -- Stopped at j: j is the first unknown's column that is such a combination.
-  abbrev pub Is : Outcome F → Type 0
-  Is (solved x) = ((j : ℕ) → j < m → Free j) × Combines m x
-  Is (stopped j) = (j < m) × ((v : ℕ → F) × Combines j v) × ((i : ℕ) → i < j → Free i)
+  pub record IsSolved (x : ℕ → ℕ) : Type 0 where
+    pub independent : (j : ℕ) → 1 ≤ j → j ≤ m → Apart j
+    pub solves : Solves x
+    pub only : (y : ℕ → ℕ) → Solves y → (c : ℕ) → 1 ≤ c → c ≤ m → y c % F .q ≡ x c
 
--- Two outcomes say the same of a system in m unknowns: the m values are equal, or the column is.
-abbrev pub Agree : {F : Type 0} → ℕ → Outcome F → Outcome F → Type 0
-Agree m (solved x) (solved y) = (c : ℕ) → c < m → x c ≡ y c
-Agree m (solved x) (stopped j) = ⊥
-Agree m (stopped i) (solved y) = ⊥
-Agree m (stopped i) (stopped j) = i ≡ j
+  -- stopped at j: column j is the first that the columns before it combine to. No columns at all combine only to the zero column
+  pub record IsStopped (j : ℕ) : Type 0 where
+    pub low : 1 ≤ j
+    pub high : j ≤ m
+    pub factors : ℕ → ℕ
+    pub combines : Combines j factors
+    pub first : (i : ℕ) → 1 ≤ i → i < j → Apart i

@@ -1,58 +1,38 @@
--- What a step does to a table of values. Rows and columns count from 0 here, from 1 in the paper.
--- A step for the pivot of row k in column j works in columns j and up, with another row s. In a square system k = j, and s is the paper's k.
+-- What a step does to a table of m rows and w columns of values: T before it, U after it.
+-- A step for the pivot of row k in column j works in columns j and up, with another row s. In a square system k = j, w = m+1, and s is the
+-- paper's k.
 -- Assumes nothing.
-use mathlib.Core.Bool.{Bool, true, false}
-use Prim.Native.Nat.{ℕ}
-use lib.Dec.{eqb, leb, ltb}
-use Rattle.algebra.specs.Field.{Ops}
+use mathlib.Core.Path.{_≡_}
+use Prim.Native.Nat.{ℕ, _≤_, _<_}
+use Rattle.field.specs.Field.{Ops, sub, inv}
+use Rattle.flag.specs.Flag.{flagOf}
 use Rattle.algebra.specs.Linear.{Table}
 
-abbrev pub pick : {A : Type 0} → Bool → A → A → A
-pick true a b = a
-pick false a b = b
+module _ (m w : ℕ) where
+  -- row r, column c is one of the table's
+  abbrev pub In : ℕ → ℕ → Type 0
+  In r c = (1 ≤ r) × (r ≤ m) × (1 ≤ c) × (c ≤ w)
 
-abbrev pub both : Bool → Bool → Bool
-both true b = b
-both false b = false
+  -- row i is f in columns j and up, and every other entry is as it was
+  pub record RowIs (i j : ℕ) (f : ℕ → ℕ) (T U : Table) : Type 0 where
+    pub new : (c : ℕ) → j ≤ c → c ≤ w → U i c ≡ f c
+    pub kept : (r c : ℕ) → In r c → (r ≡ i → c < j) → U r c ≡ T r c
 
-abbrev pub choose : {P A : Type 0} → Dec P → A → A → A
-choose (yes p) a b = a
-choose (no n) a b = b
+  module _ (F : Ops) where
+    -- Mix: "row j += Product(flag, row k)", with the flag of T[j,j]. Not whenever the other row's entry isn't 0: "a good pivot can cancel"
+    abbrev pub Mixes : ℕ → ℕ → ℕ → Table → Table → Type 0
+    Mixes k j s T U = RowIs k j (λ c. F .add (T k c) (F .mul (flagOf (T k j)) (T s c))) T U
 
--- row i is f in columns j and up
-unfoldable pub put : {F : Type 0} → ℕ → ℕ → (ℕ → F) → Table F → Table F
-put j i f T = λ r c. pick (both (eqb r i) (leb j c)) (f c) (T r c)
+    -- Scale: "inverts T[j,j]" and multiplies the row
+    abbrev pub Scales : ℕ → ℕ → Table → Table → Type 0
+    Scales k j T U = RowIs k j (λ c. F .mul (inv F (T k j)) (T k c)) T U
 
-module _ {F : Type 0} (O : Ops F) where
-  open Ops O using (nought as 𝟘, one as 𝟙, add as _⊕_, mul as _⊙_, neg, inv, same?)
+    -- Clear: "row k += Product(copy, row j)", where the copy is T[k,j] before the step, here with the sign that clears it
+    abbrev pub Clears : ℕ → ℕ → ℕ → Table → Table → Type 0
+    Clears k j s T U = RowIs s j (λ c. sub F (T s c) (F .mul (T s j) (T k c))) T U
 
-  infixl 60 _⊕_
-  infixl 70 _⊙_
-  -- "1 exactly when the value was 0"
-  unfoldable pub flag : F → F
-  flag a = choose (same? a 𝟘) 𝟙 𝟘
-
-  -- row i += a · row s
-  abbrev pub addRow : ℕ → ℕ → F → ℕ → Table F → Table F
-  addRow j i a s T = put j i (λ c. T i c ⊕ a ⊙ T s c) T
-
-  -- row i := a · row i
-  abbrev pub scaleRow : ℕ → ℕ → F → Table F → Table F
-  scaleRow j i a T = put j i (λ c. a ⊙ T i c) T
-
-  -- Mix: "row j += Product(flag, row k)", with the flag of T[j,j]. Not whenever the other row's entry isn't 0: "a good pivot can cancel".
-  abbrev pub mixRow : ℕ → ℕ → ℕ → Table F → Table F
-  mixRow k j s T = addRow j k (flag (T k j)) s T
-
-  -- Scale: "inverts T[j,j]" and multiplies the row
-  abbrev pub scale : ℕ → ℕ → Table F → Table F
-  scale k j T = scaleRow j k (inv (T k j)) T
-
-  -- Clear: "row k += Product(copy, row j)", where the copy is T[k,j] before the step, here with the sign that clears it
-  abbrev pub clearRow : ℕ → ℕ → ℕ → Table F → Table F
-  clearRow k j s T = addRow j s (neg (T s j)) k T
-
-  -- Open: the unknown of row i is its entry in column w, the right side's, and each row above loses it times its own entry in the unknown's
-  -- column p i ("the factor is T[j,k] where T[k,j] is meant" in 001). In a square system p i = i and w = m.
-  unfoldable pub openRow : (ℕ → ℕ) → ℕ → ℕ → Table F → Table F
-  openRow p w i T = λ r c. pick (both (ltb r i) (eqb c w)) (T r w ⊕ neg (T i w ⊙ T r (p i))) (T r c)
+    -- Open: the unknown of row k is its entry in the last column, and each row above loses it times its own entry in the unknown's column j
+    -- ("the factor is T[j,k] where T[k,j] is meant" in 001)
+    pub record Opens (k j : ℕ) (T U : Table) : Type 0 where
+      pub new : (r : ℕ) → 1 ≤ r → r < k → U r w ≡ sub F (T r w) (F .mul (T k w) (T r j))
+      pub kept : (r c : ℕ) → In r c → (c ≡ w → k ≤ r) → U r c ≡ T r c

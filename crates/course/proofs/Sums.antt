@@ -7,12 +7,13 @@ use Prim.Native.Nat.{ℕ, zero, suc, _≤_, _+_, _-_, _*_}
 use native.Mathlib.Omega.{arith}
 use native.Mathlib.Nat.{suc-mul, mul-suc, mul-add, mul-le-mul, mul-le-mul-right}
 use lib.ListN.{length, length-append}
+use Rattle.sharing.specs.Bounds.{mostRows, mostSteps, mostDraws}
 use Rattle.table.proofs.CostBounds.{mix-few, check-few, scale-few, clear-few, open-few}
 use Rattle.table.specs.Costs.{scaleNonzero}
 use Rattle.course.specs.declared.Step.{Step}
 use Rattle.course.specs.declared.Step.the-variants.{Mix, Check, Scale, Clear, Open}
 use Rattle.course.specs.declared.Order.{Order}
-use Rattle.course.specs.StepList.{Sizes, each, column, columns, openings, stepList, inList, columnsAt, maskCost, nonzeroCost, sumOver, fullMask, fullNonzero}
+use Rattle.course.specs.StepList.{Sizes, each, column, columns, openings, stepList, inList, columnsAt, costOf, maskCost, nonzeroCost, sumOver, fullMask, fullNonzero}
 use Rattle.course.proofs.Within.{within}
 use Rattle.course.proofs.Members.{AllIn, all-in}
 
@@ -53,8 +54,8 @@ list-length m =
     rw (length-append (columns m 1 m) (openings m), columns-length m 1 m (omega arith), openings-length m)
     (omega (arith, mul-add m m 1, mul-add m m 2))
 
-pub list-small : (m : ℕ) → m ≤ 96 → length (stepList m) ≤ 9408
-list-small m h = rw (list-length m) (mul-le-mul {n₁ = m} {m₁ = m + 2} {n₂ = 96} {m₂ = 98} h (omega arith))
+pub list-small : (m : ℕ) → m ≤ mostRows → length (stepList m) ≤ mostSteps
+list-small m h = rw (list-length m) (mul-le-mul {n₁ = m} {m₁ = m + 2} {n₂ = mostRows} {m₂ = mostRows + 2} h (omega arith))
 
 -- the nonzero draws
 
@@ -65,12 +66,12 @@ module _ (o : Order) where
   each-none f h a (suc n) = omega (arith, h a, each-none f h (a + 1) n)
 
   openings-none : (n : ℕ) → sumOver (nonzeroCost o) (openings n) ≡ 0
-  unfolding openings sumOver nonzeroCost
+  unfolding openings sumOver costOf
   openings-none zero = refl
   openings-none (suc n) = omega (arith, openings-none n)
 
   column-nonzero : (m j : ℕ) → sumOver (nonzeroCost o) (column m j) ≡ o .shares - 1
-  unfolding column sumOver nonzeroCost scaleNonzero
+  unfolding column sumOver costOf scaleNonzero
   column-nonzero m j =
       rw (sum-append (nonzeroCost o) (each (Mix j) (j + 1) (m - j)) (Check j ∷ Scale j ∷ each (Clear j) (j + 1) (m - j)))
       (omega (arith, each-none (Mix j) (λ k. refl) (j + 1) (m - j), each-none (Clear j) (λ k. refl) (j + 1) (m - j)))
@@ -87,14 +88,14 @@ module _ (o : Order) where
   nonzero-count =
       omega (arith, sum-append (nonzeroCost o) (columns (o .size) 1 (o .size)) (openings (o .size)), columns-nonzero (o .size) 1 (o .size), openings-none (o .size))
 
-  pub nonzero-small : Sizes o → fullNonzero o ≤ 288
+  pub nonzero-small : Sizes o → fullNonzero o ≤ mostRows * 3
   nonzero-small z =
-      omega (arith, nonzero-count, mul-le-mul {n₁ = o .size} {m₁ = o .shares - 1} {n₂ = 96} {m₂ = 3} (z .most) (omega arith))
+      omega (arith, nonzero-count, mul-le-mul {n₁ = o .size} {m₁ = o .shares - 1} {n₂ = mostRows} {m₂ = 3} (z .most) (omega arith))
 
   -- the mask draws
 
-  pub cost-small : Sizes o → (s : Step) → inList (o .size) s ≡ true → maskCost o s ≤ 1179
-  unfolding maskCost
+  pub cost-small : Sizes o → (s : Step) → inList (o .size) s ≡ true → maskCost o s ≤ mostDraws
+  unfolding costOf
   cost-small z (Mix j k) h = let w = within (o .size) (Mix j k) h in mix-few (o .field) (o .shares) (columnsAt o j) (z .four) (omega arith)
   cost-small z (Check j) h = check-few (o .field) (o .shares) (z .four)
   cost-small z (Scale j) h = let w = within (o .size) (Scale j) h in scale-few (o .shares) (columnsAt o j) (z .four) (omega arith)
@@ -103,12 +104,12 @@ module _ (o : Order) where
       omega (arith, clear-few (o .shares) (columnsAt o j) (z .four) (omega arith))
   cost-small z (Open j) h = omega (arith, open-few (o .shares) (z .four))
 
-  sum-small : Sizes o → (l : List Step) → AllIn (o .size) l → sumOver (maskCost o) l ≤ length l * 1179
+  sum-small : Sizes o → (l : List Step) → AllIn (o .size) l → sumOver (maskCost o) l ≤ length l * mostDraws
   unfolding sumOver
   sum-small z [] h = omega arith
-  sum-small z (s ∷ l) h = omega (arith, cost-small z s (h .0), sum-small z l (h .1), suc-mul (length l) 1179)
+  sum-small z (s ∷ l) h = omega (arith, cost-small z s (h .0), sum-small z l (h .1), suc-mul (length l) mostDraws)
 
-  -- 9408 times 1179
-  pub mask-small : Sizes o → fullMask o ≤ 11092032
+  -- the most steps, each of the most draws
+  pub mask-small : Sizes o → fullMask o ≤ mostSteps * mostDraws
   mask-small z =
-      omega (arith, sum-small z (stepList (o .size)) (all-in (o .size)), mul-le-mul-right 1179 (list-small (o .size) (z .most)))
+      omega (arith, sum-small z (stepList (o .size)) (all-in (o .size)), mul-le-mul-right mostDraws (list-small (o .size) (z .most)))

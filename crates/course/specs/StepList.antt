@@ -1,4 +1,4 @@
--- 01, "The step list": the list of a size, the draws of each step of it, and sums over lists of steps.
+-- 01, "The step list": the list of a size, the draws of each step of it and what it opens, and sums over lists of steps.
 -- Assumes nothing.
 use mathlib.Core.Bool.{Bool, _&&_}
 use mathlib.Core.List.{List, [], _∷_, _++_}
@@ -7,10 +7,12 @@ use mathlib.Core.Path.{_≡_}
 use Prim.Native.Nat.{ℕ, zero, suc, _+_, _-_, _≤_}
 use lib.Dec.{ltb, leb}
 use lib.ListN.{length}
+use Rattle.sharing.specs.Bounds.{mostRows}
 use Rattle.table.specs.Layout.{columnsFrom}
 use Rattle.table.specs.Costs.{mixCost, checkCost, scaleCost, scaleNonzero, clearCost, openCost}
 use Rattle.course.specs.declared.Step.{Step}
 use Rattle.course.specs.declared.Step.the-variants.{Mix, Check, Scale, Clear, Open}
+use Rattle.course.specs.declared.Draws.{Draws}
 use Rattle.course.specs.declared.Order.{Order}
 use Rattle.course.specs.declared.Counts.{Counts}
 
@@ -20,7 +22,7 @@ pub record Sizes (o : Order) : Type 0 where
   pub two : 2 ≤ o .shares
   pub four : o .shares ≤ 4
   pub some : 1 ≤ o .size
-  pub most : o .size ≤ 96
+  pub most : o .size ≤ mostRows
 
 -- step a, step (a + 1), .., n of them
 unfoldable pub each : (ℕ → Step) → ℕ → ℕ → List Step
@@ -61,21 +63,36 @@ inList m (Open j) = leb 1 j && leb j m
 abbrev pub columnsAt : Order → ℕ → ℕ
 columnsAt o j = columnsFrom (o .size + 1) j
 
--- the mask draws of a step
-unfoldable pub maskCost : Order → Step → ℕ
-maskCost o (Mix j k) = mixCost (o .field) (o .shares) (columnsAt o j)
-maskCost o (Check j) = checkCost (o .field) (o .shares)
-maskCost o (Scale j) = scaleCost (o .shares) (columnsAt o j)
-maskCost o (Clear j k) = clearCost (o .shares) (columnsAt o j)
-maskCost o (Open j) = openCost (o .shares)
+abbrev pub draws : ℕ → ℕ → Draws
+draws mask nonzero = record { mask = mask; nonzero = nonzero }
 
--- its nonzero draws
-unfoldable pub nonzeroCost : Order → Step → ℕ
-nonzeroCost o (Mix j k) = 0
-nonzeroCost o (Check j) = 0
-nonzeroCost o (Scale j) = scaleNonzero (o .shares)
-nonzeroCost o (Clear j k) = 0
-nonzeroCost o (Open j) = 0
+-- a step's mask draws and its nonzero draws
+unfoldable pub costOf : Order → Step → Draws
+costOf o (Mix j k) = draws (mixCost (o .field) (o .shares) (columnsAt o j)) 0
+costOf o (Check j) = draws (checkCost (o .field) (o .shares)) 0
+costOf o (Scale j) = draws (scaleCost (o .shares) (columnsAt o j)) (scaleNonzero (o .shares))
+costOf o (Clear j k) = draws (clearCost (o .shares) (columnsAt o j)) 0
+costOf o (Open j) = draws (openCost (o .shares)) 0
+
+abbrev pub maskCost : Order → Step → ℕ
+maskCost o s = costOf o s .mask
+
+abbrev pub nonzeroCost : Order → Step → ℕ
+nonzeroCost o s = costOf o s .nonzero
+
+-- what a step opens, with its j: Check the flag of T[j,j], Scale T[j,j] itself, blinded, and Open the unknown x_j
+pub data Opens : Type 0 where
+  None : Opens
+  Flag : ℕ → Opens
+  Pivot : ℕ → Opens
+  Unknown : ℕ → Opens
+
+unfoldable pub opensOf : Step → Opens
+opensOf (Mix j k) = None
+opensOf (Check j) = Flag j
+opensOf (Scale j) = Pivot j
+opensOf (Clear j k) = None
+opensOf (Open j) = Unknown j
 
 unfoldable pub sumOver : (Step → ℕ) → List Step → ℕ
 sumOver cost [] = 0

@@ -1,8 +1,7 @@
 // The course of a solve: the step list, the progress record and its next place, and what the steps draw. Stands on table, for the costs.
 ghost use mathlib.Core.Path.{_≡_};
-ghost use Prim.Native.Nat.{_+_, _≤_};
 ghost use mathlib.Core.Bool.{true};
-ghost use Rattle.course.specs.StepList.{Sizes, inList, maskCost, nonzeroCost, stepList, sums};
+ghost use Rattle.course.specs.StepList.{Sizes, inList, costOf, stepList, sums};
 ghost use Rattle.course.specs.Next.{firstOf, after, nextOf, startOf};
 
 // One of the five steps with its j and k. Check, Scale and Open carry j only.
@@ -33,6 +32,12 @@ pub struct Progress {
     pub shares: u64,
     pub size: u64,
     pub place: Place,
+}
+
+// Mask draws and nonzero draws.
+pub struct Draws {
+    pub mask: usize,
+    pub nonzero: usize,
 }
 
 // Steps, mask draws and nonzero draws.
@@ -144,34 +149,39 @@ impl Progress {
     }
 }
 
-// The mask draws of a step of the list.
-pub fn mask_cost(o: Order, s: Step) -> usize
+// The draws of a step of the list.
+pub fn cost(o: Order, s: Step) -> Draws
     requires { ⌜ Sizes o ⌝ }
     requires { ⌜ inList (o .size) s ≡ true ⌝ }
-    ensures { λ r. ⌜ (r ≡ maskCost o s) × (r ≤ 1179) ⌝ }
+    ensures { λ r. ⌜ r ≡ costOf o s ⌝ }
 {
     let f = o.field;
     let n = o.shares as usize;
     let w = o.size as usize + 1;
     match s {
-        Step::Mix { j, k: _ } => table::mix_cost(f, n, w + 1 - j as usize),
-        Step::Check(_) => table::check_cost(f, n),
-        Step::Scale(j) => table::scale_cost(n, w + 1 - j as usize),
-        Step::Clear { j, k: _ } => table::clear_cost(n, w + 1 - j as usize),
-        Step::Open(_) => table::open_cost(n),
-    }
-}
-
-pub fn nonzero_cost(o: Order, s: Step) -> usize
-    requires { ⌜ Sizes o ⌝ }
-    ensures { λ r. ⌜ (r ≡ nonzeroCost o s) × (r ≤ 3) ⌝ }
-{
-    match s {
-        Step::Mix { j: _, k: _ } => 0,
-        Step::Check(_) => 0,
-        Step::Scale(_) => o.shares as usize - 1,
-        Step::Clear { j: _, k: _ } => 0,
-        Step::Open(_) => 0,
+        Step::Mix { j, k: _ } => Draws {
+            mask: table::mix_cost(f, n, w + 1 - j as usize),
+            nonzero: 0,
+        },
+        Step::Check(_) => Draws {
+            mask: table::check_cost(f, n),
+            nonzero: 0,
+        },
+        Step::Scale(j) => {
+            let others = n - 1;
+            Draws {
+                mask: table::scale_cost(n, w + 1 - j as usize),
+                nonzero: others,
+            }
+        }
+        Step::Clear { j, k: _ } => Draws {
+            mask: table::clear_cost(n, w + 1 - j as usize),
+            nonzero: 0,
+        },
+        Step::Open(_) => Draws {
+            mask: table::open_cost(n),
+            nonzero: 0,
+        },
     }
 }
 
@@ -193,11 +203,10 @@ pub fn full_counts(o: Order) -> Counts
                 nonzero,
             };
         };
-        let a = mask_cost(o, s);
-        let b = nonzero_cost(o, s);
+        let d = cost(o, s);
         p = p.next(0);
         steps += 1;
-        mask += a;
-        nonzero += b;
+        mask += d.mask;
+        nonzero += d.nonzero;
     }
 }

@@ -3,13 +3,14 @@
 use mathlib.Core.List.{List, [], _∷_}
 use Prim.Native.Nat.{ℕ}
 use Rattle.course.specs.declared.Counts.{Counts}
+use Rattle.course.specs.declared.Draws.{Draws}
 use Rattle.course.specs.declared.Progress.{Progress}
 use Rattle.walk.specs.declared.Ending.{Ending}
 use Rattle.walk.specs.declared.Ending.the-variants.{Solved, Stopped}
 use Rattle.verdict.specs.Told.{Line}
 use Rattle.verdict.specs.Refusals.{reportOf}
 use Rattle.verdict.specs.Calls.{Says, refuses, gives}
-use Rattle.solver.specs.Calls.{Full, filled, Stride, moved, opening, stopped, done, Draws}
+use Rattle.solver.specs.Calls.{Full, filled, Stride, moved, opening, stopped, done}
 use Rattle.host.specs.declared.replies.Reply.{Reply}
 
 abbrev pub reply : ℕ → ℕ → ℕ → ℕ → ℕ → Reply

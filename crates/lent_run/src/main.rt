@@ -1,4 +1,4 @@
-// The step call on a lent record and the step call by value, side by side. Stands on lent and solver.
+// The step call on a lent record and the step call by value, side by side. Stands on lent and solver, and on show for the words.
 // Two systems of F16 with two shares and two unknowns are stepped through, one to its solution and one to its stop, with refused calls between;
 // then calls on records that a host made up. Each line has the answer, the record after the call, the table (an entry is its two shares) and the
 // solution, of the lent form, and whether the form by value came to the same.
@@ -8,7 +8,6 @@ use course::Step;
 use solver::Starting;
 use solver::Stepped;
 use solver::Stepping;
-use verdict::Refusal;
 
 // A host's own: the record, the table and the solution.
 struct Host {
@@ -29,73 +28,6 @@ struct Both {
     value: Host,
 }
 
-// A case of an enum as a number, with what it holds.
-struct Shown {
-    case: u64,
-    first: u64,
-    second: u64,
-}
-
-fn case(number: u64, first: u64, second: u64) -> Shown {
-    Shown {
-        case: number,
-        first,
-        second,
-    }
-}
-
-// 01's number of a refusal, and its detail.
-fn show_refusal(r: Refusal) -> Shown {
-    let l = r.report();
-    case(l.number, l.a, l.b)
-}
-
-fn value(x: u8) -> u64 {
-    x as u64
-}
-
-// The numbers after the refusals' are the other answers'.
-fn show_answer(a: Stepping) -> Shown {
-    match a {
-        Stepping::Moved => case(13, 0, 0),
-        Stepping::Opened(j, x) => case(14, j, value(x)),
-        Stepping::Stopped(j) => case(15, j, 0),
-        Stepping::Done(x) => case(16, value(x), 0),
-        Stepping::Refused(r) => show_refusal(r),
-    }
-}
-
-fn show_step(s: Step) -> Shown {
-    match s {
-        Step::Mix { j, k } => case(1, j, k),
-        Step::Check(j) => case(2, j, 0),
-        Step::Scale(j) => case(3, j, 0),
-        Step::Clear { j, k } => case(4, j, k),
-        Step::Open(j) => case(5, j, 0),
-    }
-}
-
-fn show_place(p: Place) -> Shown {
-    match p {
-        Place::At(s) => show_step(s),
-        Place::Stopped(j) => case(6, j, 0),
-        Place::Done => case(7, 0, 0),
-    }
-}
-
-fn alike(a: Shown, b: Shown) -> bool {
-    a.case == b.case && a.first == b.first && a.second == b.second
-}
-
-fn same_record(p: Progress, q: Progress) -> bool {
-    let a = p.place;
-    let b = q.place;
-    p.field == q.field
-        && p.shares == q.shares
-        && p.size == q.size
-        && alike(show_place(a), show_place(b))
-}
-
 fn same_bytes(g: Host, h: Host) -> bool {
     let t = g.table;
     let u = h.table;
@@ -111,82 +43,9 @@ fn same(g: Told, h: Told) -> bool {
     let k = h.host;
     let p = i.record;
     let q = k.record;
-    alike(show_answer(a), show_answer(b)) && same_record(p, q) && same_bytes(i, k)
-}
-
-fn number(n: u64) {
-    io::write_all(1, b" ");
-    io::print_decimal(1, n);
-}
-
-fn print_answer(a: Shown) {
-    let c = a.case;
-    match c {
-        13 => {
-            io::write_all(1, b"moved");
-        }
-        14 => {
-            io::write_all(1, b"opened");
-            number(a.first);
-            number(a.second);
-        }
-        15 => {
-            io::write_all(1, b"stopped");
-            number(a.first);
-        }
-        16 => {
-            io::write_all(1, b"done");
-            number(a.first);
-        }
-        _ => {
-            io::write_all(1, b"refused");
-            number(a.case);
-            number(a.first);
-        }
-    }
-}
-
-fn print_place(p: Shown) {
-    let c = p.case;
-    match c {
-        1 => {
-            io::write_all(1, b" Mix");
-            number(p.first);
-            number(p.second);
-        }
-        2 => {
-            io::write_all(1, b" Check");
-            number(p.first);
-        }
-        3 => {
-            io::write_all(1, b" Scale");
-            number(p.first);
-        }
-        4 => {
-            io::write_all(1, b" Clear");
-            number(p.first);
-            number(p.second);
-        }
-        5 => {
-            io::write_all(1, b" Open");
-            number(p.first);
-        }
-        6 => {
-            io::write_all(1, b" stopped");
-            number(p.first);
-        }
-        _ => {
-            io::write_all(1, b" done");
-        }
-    }
-}
-
-fn print_record(p: Progress) {
-    number(p.field);
-    number(p.shares);
-    number(p.size);
-    let a = p.place;
-    print_place(show_place(a));
+    show::same(show::of_stepping(a), show::of_stepping(b))
+        && show::same_record(p, q)
+        && same_bytes(i, k)
 }
 
 // A byte of F16 as a hexadecimal digit.
@@ -228,8 +87,8 @@ fn print_host(h: Host) {
     let p = h.record;
     let t = h.table;
     let x = h.solution;
-    io::write_all(1, b" | record");
-    print_record(p);
+    io::write_all(1, b" | ");
+    show::record(p);
     io::write_all(1, b" | table");
     print_table(&t);
     io::write_all(1, b" | solution");
@@ -239,7 +98,7 @@ fn print_host(h: Host) {
 fn print_told(t: Told) {
     let a = t.answer;
     let h = t.host;
-    print_answer(show_answer(a));
+    show::say(show::of_stepping(a));
     print_host(h);
 }
 

@@ -1,9 +1,5 @@
-pub mod Elements
-pub mod Grid
-pub mod Outcomes
 pub mod Link
 pub mod Listed
-pub mod Acted
 pub mod Walked
 pub mod Meant
 pub mod Alike

@@ -1,74 +1,137 @@
--- The step list is algebra's: there rows and columns are counted from 0, and the list is built from its end.
+-- Whoever performs the step list on values, step by step as algebra says it, ends with the answer that the values have.
 -- Assumes nothing.
-use mathlib.Core.Path.{_≡_, refl, sym, ap, ap₂, _∙_}
-use Prim.Native.Nat.{ℕ, zero, suc, _+_, _-_}
-use mathlib.Core.List.{List, [], _∷_, _++_, map, map-append, append-assoc, append-nil}
+use mathlib.Core.Path.{_≡_, refl, subst}
+use mathlib.Core.Logic.{_≢_}
+use Prim.Native.Nat.{ℕ, zero, suc, _+_, _-_, _<_, _≤_}
+use mathlib.Core.List.{List, [], _∷_, _++_}
 use native.Mathlib.Omega.{arith}
-use native.Mathlib.Numerals.{sub-one}
-use Rattle.algebra.specs.StepList as A
+use native.Mathlib.Nat.{le-refl}
+use Rattle.field.specs.Field.{Ops, Field}
+use Rattle.algebra.specs.Linear.{Table, IsSolved, IsStopped}
+use Rattle.algebra.specs.Steps.{Mixes, Scales, Clears, Opens}
+use Rattle.algebra.proofs.Outcome.{Small}
+use Rattle.algebra.proofs.Opened as A
+use Rattle.algebra.proofs.Column as C
+use Rattle.algebra.proofs.Square.{own, stopped-at, solved-with}
 use Rattle.course.specs.declared.Step.{Step}
 use Rattle.course.specs.declared.Step.the-variants.{Mix, Check, Scale, Clear, Open}
 use Rattle.course.specs.StepList.{each, column, columns, openings, stepList}
 
--- a step as algebra counts it
-abbrev pub counted : Step → A.Step
-counted (Mix j k) = A.Mix (j - 1) (k - 1)
-counted (Check j) = A.Check (j - 1)
-counted (Scale j) = A.Scale (j - 1)
-counted (Clear j k) = A.Clear (j - 1) (k - 1)
-counted (Open j) = A.Open (j - 1)
+-- a table that is worked on, with the unknowns opened so far; or a column that a Check stopped at
+pub data Run : Type 0 where
+  going : Table → (ℕ → ℕ) → Run
+  halted : ℕ → Run
 
-abbrev pub countedAll : List Step → List A.Step
-countedAll l = map counted l
+module _ (F : Ops) (m : ℕ) where
+  -- what a step may do to a run. It leaves elements; only Open writes an unknown, its own, and keeps those that were opened before it
+  pub data Acts : Step → Run → Run → Type 0 where
+    mixed : {j k : ℕ} {T U : Table} {x y : ℕ → ℕ} → Small F U → Mixes m (m + 1) F j j k T U → Acts (Mix j k) (going T x) (going U y)
+    passed : {j : ℕ} {T : Table} {x : ℕ → ℕ} → T j j ≢ 0 → Acts (Check j) (going T x) (going T x)
+    halts : {j : ℕ} {T : Table} {x : ℕ → ℕ} → T j j ≡ 0 → Acts (Check j) (going T x) (halted j)
+    scaled : {j : ℕ} {T U : Table} {x y : ℕ → ℕ} → Small F U → Scales m (m + 1) F j j T U → Acts (Scale j) (going T x) (going U y)
+    cleared : {j k : ℕ} {T U : Table} {x y : ℕ → ℕ} → Small F U → Clears m (m + 1) F j j k T U → Acts (Clear j k) (going T x) (going U y)
+    opened : {j : ℕ} {T U : Table} {x y : ℕ → ℕ} → Opens m (m + 1) F j j T U → y j ≡ T j (m + 1) → ((i : ℕ) → j < i → i ≤ m → y i ≡ x i)
+        → Acts (Open j) (going T x) (going U y)
+    over : {s : Step} {j : ℕ} → Acts s (halted j) (halted j)
 
--- algebra's list, from its front
-after-first : (g : ℕ → A.Step) (i n : ℕ) → A.after g i (suc n) ≡ g (suc i) ∷ A.after g (suc i) n
-unfolding A.after
-after-first g i zero = let e : i + 0 ≡ i = omega arith in rw e
-after-first g i (suc n) =
-    let e : i + suc n ≡ suc i + n = omega arith in
-    rw e (ap (λ (l : List A.Step). l ++ (g (suc (suc i + n)) ∷ [])) (after-first g i n))
+  pub data Performs : List Step → Run → Run → Type 0 where
+    none : {R : Run} → Performs [] R R
+    more : {s : Step} {l : List Step} {R R′ S : Run} → Acts s R R′ → Performs l R′ S → Performs (s ∷ l) R S
 
--- the rows below row i, there from 0, and from a on here
-each-after : (step : ℕ → Step) (g : ℕ → A.Step) → ((k : ℕ) → counted (step (suc k)) ≡ g k) → (n i a : ℕ) → a ≡ suc (suc i)
-    → countedAll (each step a n) ≡ A.after g i n
-unfolding each A.after
-each-after step g h zero i a e = refl
-each-after step g h (suc n) i a e =
-    ap₂ (λ (s : A.Step) (l : List A.Step). s ∷ l) (ap (λ (k : ℕ). counted (step k)) e ∙ h (suc i))
-    (each-after step g h n (suc i) (a + 1) (omega arith))
-    ∙ sym (after-first g i n)
+  split : (a : List Step) {b : List Step} {R S : Run} → Performs (a ++ b) R S → (Q : Run) × Performs a R Q × Performs b Q S
+  split [] {R = R} r = (R, none, r)
+  split (s ∷ a) (more e r) = let d = split a r in (d .0, more e (d .1), d .2)
 
-module _ (m : ℕ) where
-  column-counted : (i : ℕ) → countedAll (column m (suc i)) ≡ A.column m i
-  unfolding column
-  column-counted i =
-      let j : ℕ = suc i in
-      map-append counted (each (Mix j) (j + 1) (m - j)) (Check j ∷ Scale j ∷ each (Clear j) (j + 1) (m - j))
-      ∙ ap₂ _++_ (each-after (Mix j) (A.Mix i) (λ k. rw (sub-one j, sub-one (suc k))) (m - j) i (j + 1) (omega arith))
-      (rw sub-one
-      (ap (λ (l : List A.Step). A.Check i ∷ A.Scale i ∷ l)
-      (each-after (Clear j) (A.Clear i) (λ k. rw (sub-one j, sub-one (suc k))) (m - j) i (j + 1) (omega arith))))
+  module _ (L : Field F) (T : Table) (small : Small F T) where
+    -- the run is as P says, or has stopped where it had to
+    abbrev pub Stands : (Table → (ℕ → ℕ) → Type 0) → Run → Type 0
+    Stands P (going U x) = P U x
+    Stands P (halted j) = IsStopped F m T j
 
-  columns-counted : (n i j : ℕ) → j ≡ suc i → A.columns m i ++ countedAll (columns m j n) ≡ A.columns m (i + n)
-  unfolding columns A.columns
-  columns-counted zero i j e = let z : i + 0 ≡ i = omega arith in append-nil (A.columns m i) ∙ ap (A.columns m) (sym z)
-  columns-counted (suc n) i j e =
-      let z : suc i + n ≡ i + suc n = omega arith in
-      rw e
-      (ap (λ (l : List A.Step). A.columns m i ++ l)
-      (map-append counted (column m (suc i)) (columns m (suc i + 1) n)
-      ∙ ap (λ (l : List A.Step). l ++ countedAll (columns m (suc i + 1) n)) (column-counted i))
-      ∙ sym (append-assoc (A.columns m i) (A.column m i) (countedAll (columns m (suc i + 1) n)))
-      ∙ columns-counted n (suc i) (suc i + 1) (omega arith) ∙ ap (A.columns m) z)
+    then : {P Q : Table → (ℕ → ℕ) → Type 0} → ((U : Table) (x : ℕ → ℕ) → P U x → Q U x) → (R : Run) → Stands P R → Stands Q R
+    then f (going U x) h = f U x h
+    then f (halted j) h = h
 
-  openings-counted : (n : ℕ) → countedAll (openings n) ≡ A.openings n
-  unfolding openings A.openings
-  openings-counted zero = refl
-  openings-counted (suc n) = rw sub-one (ap (λ (l : List A.Step). A.Open n ∷ l) (openings-counted n))
+    -- the pivots of columns 1 to i are taken; column i+1 is at work
+    abbrev Shaped : ℕ → Table → (ℕ → ℕ) → Type 0
+    Shaped i U x = C.Shape F L m (m + 1) T own i i U
 
-  pub list-counted : countedAll (stepList m) ≡ A.steps m
-  unfolding stepList A.columns
-  list-counted =
-      let z : 0 + m ≡ m = omega arith in
-      map-append counted (columns m 1 m) (openings m) ∙ ap₂ _++_ (rw z at (columns-counted m 0 1 refl)) (openings-counted m)
+    abbrev Sought : ℕ → ℕ → Table → (ℕ → ℕ) → Type 0
+    Sought i s U x = C.Sought F L m (m + 1) T own i i s U
+
+    abbrev Cleared : ℕ → ℕ → Table → (ℕ → ℕ) → Type 0
+    Cleared i s U x = C.Cleared F L m (m + 1) T own i i s U
+
+    mixes : (i n s a : ℕ) → a ≡ suc s → suc i ≤ s → s + n ≡ m → {R S : Run} → Performs (each (Mix (suc i)) a n) R S → Stands (Sought i s) R
+        → Stands (Sought i m) S
+    unfolding each
+    mixes i zero s a e l g {R} none h = let d : s ≡ m = omega arith in subst (λ (k : ℕ). Stands (Sought i k) R) d h
+    mixes i (suc n) s a e l g (more (mixed sm M) r) h =
+        mixes i n (suc s) (a + 1) (omega arith) (omega arith) (omega arith) r
+        (C.sought-next F L m (m + 1) (omega arith) (omega arith) l (omega arith) sm (rw e at M) h)
+    mixes i (suc n) s a e l g (more over r) h = mixes i n (suc s) (a + 1) (omega arith) (omega arith) (omega arith) r h
+
+    clears : (i n s a : ℕ) → a ≡ suc s → suc i ≤ s → s + n ≡ m → {R S : Run} → Performs (each (Clear (suc i)) a n) R S
+        → Stands (Cleared i s) R → Stands (Cleared i m) S
+    unfolding each
+    clears i zero s a e l g {R} none h = let d : s ≡ m = omega arith in subst (λ (k : ℕ). Stands (Cleared i k) R) d h
+    clears i (suc n) s a e l g (more (cleared sm M) r) h =
+        clears i n (suc s) (a + 1) (omega arith) (omega arith) (omega arith) r
+        (C.cleared-next F L m (m + 1) (omega arith) (omega arith) l (omega arith) sm (rw e at M) h)
+    clears i (suc n) s a e l g (more over r) h = clears i n (suc s) (a + 1) (omega arith) (omega arith) (omega arith) r h
+
+    from-check : (i : ℕ) → suc i ≤ m → {R S : Run}
+        → Performs (Check (suc i) ∷ Scale (suc i) ∷ each (Clear (suc i)) (suc i + 1) (m - suc i)) R S → Stands (Sought i m) R
+        → Stands (Cleared i m) S
+    from-check i l (more (passed n) (more (scaled sm M) r)) h =
+        clears i (m - suc i) (suc i) (suc i + 1) (omega arith) (omega arith) (omega arith) r
+        (C.cleared-start F L m (m + 1) l (omega arith) (h .shape) n sm M)
+    from-check i l (more (halts e) (more over r)) h =
+        clears i (m - suc i) (suc i) (suc i + 1) (omega arith) (omega arith) (omega arith) r (stopped-at F L m l h e)
+    from-check i l (more over (more over r)) h = clears i (m - suc i) (suc i) (suc i + 1) (omega arith) (omega arith) (omega arith) r h
+
+    one-column : (i : ℕ) → suc i ≤ m → {R S : Run} → Performs (column m (suc i)) R S → Stands (Shaped i) R → Stands (Shaped (suc i)) S
+    unfolding column
+    one-column i l {R} {S} r h =
+        let d = split (each (Mix (suc i)) (suc i + 1) (m - suc i)) r in
+        then (λ U x. C.cleared-taken F L m (m + 1) l (omega arith) refl) S
+        (from-check i l (d .2)
+        (mixes i (m - suc i) (suc i) (suc i + 1) (omega arith) (omega arith) (omega arith) (d .1)
+        (then (λ U x. C.sought-start F L m (m + 1) l (omega arith)) R h)))
+
+    all-columns : (n i j : ℕ) → j ≡ suc i → i + n ≡ m → {R S : Run} → Performs (columns m j n) R S → Stands (Shaped i) R → Stands (Shaped m) S
+    unfolding columns
+    all-columns zero i j e g {R} none h = let d : i ≡ m = omega arith in subst (λ (k : ℕ). Stands (Shaped k) R) d h
+    all-columns (suc n) i j e g {R} r h =
+        let d = split (column m j) r in
+        all-columns n (suc i) (j + 1) (omega arith) (omega arith) (d .2)
+        (one-column i (omega arith) (subst (λ (k : ℕ). Performs (column m k) R (d .0)) e (d .1)) h)
+
+    -- rows m down to n+1 of a table with all its pivots are opened
+    record Found (n : ℕ) (U : Table) (x : ℕ → ℕ) : Type 0 where
+      whole : Table
+      shape : C.Shape F L m (m + 1) T own m m whole
+      opening : A.Opening F own m (m + 1) (A.opened F own whole m (λ r. whole r (m + 1))) n U x
+
+    all-openings : (n : ℕ) → n ≤ m → {R S : Run} → Performs (openings n) R S → Stands (Found n) R → Stands (Found 0) S
+    unfolding openings
+    all-openings zero l none h = h
+    all-openings (suc n) l (more (opened O here there) r) h =
+        all-openings n (omega arith) r
+        (record {
+          whole = h .whole;
+          shape = h .shape;
+          opening =
+              A.opening-next F own m (m + 1) (record { before = λ i a b. omega arith; apart = λ i k a b c e. omega arith }) _ n l O here there
+              (h .opening);
+        })
+    all-openings (suc n) l (more over r) h = all-openings n (omega arith) r h
+
+    pub listed : (x : ℕ → ℕ) {S : Run} → Performs (stepList m) (going T x) S → Stands (λ U y. IsSolved F m T y) S
+    unfolding stepList
+    listed x {S} r =
+        let d = split (columns m 1 m) r in
+        then (λ U y h. solved-with F L m small (h .shape) (λ c a b. h .opening .known c a b)) S
+        (all-openings m (le-refl m) (d .2)
+        (then (λ U y h. record { whole = U; shape = h; opening = A.opening-start F own m (m + 1) U y }) (d .0)
+        (all-columns m 0 1 refl (omega arith) (d .1) (C.shape-start F L m (m + 1) T own small))))

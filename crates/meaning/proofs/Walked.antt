@@ -1,36 +1,34 @@
--- The walk over the step list does to the values what algebra performs on them, and leaves the opened unknowns in the solution.
+-- The walk over the step list performs it on the values, whatever the shares and the tapes are.
 -- Assumes nothing.
-use mathlib.Core.Path.{_≡_, refl, sym, ap, _∙_}
+use mathlib.Core.Path.{_≡_, sym, ap, _∙_}
 use mathlib.Core.Bool.{Bool, true, false}
-use Prim.Native.Nat.{ℕ, zero, suc, _+_, _-_, _<_, _≤_}
-use mathlib.Core.List.{List, [], _∷_, _++_, append-nil}
+use Prim.Native.Nat.{ℕ, _+_, _-_, _<_, _≤_}
+use mathlib.Core.List.{List, [], _∷_}
 use native.Mathlib.Omega.{arith}
 use native.Mathlib.Decide.{ℕ-discrete}
-use native.Mathlib.Nat.{le-refl}
 use lib.ListN.{length, getD, drop}
 use lib.Seq.{getD-drop, getD-set-same, getD-set-other}
 use lib.Dec.{eqb}
+use borrow.Author.Tests.{eq-eqb, ne-eqb}
 use Rattle.field.specs.Field.{pick, draw, fieldOf}
 use Rattle.sharing.specs.Rules.{drawAt}
-use Rattle.table.specs.Layout.{Place}
-use Rattle.algebra.specs.StepList as A
-use Rattle.algebra.proofs.StepList.{perform-more, perform-none}
+use Rattle.table.specs.Costs.{scaleNonzero}
+use Rattle.table.specs.Layout.{tableBytes}
+use Rattle.algebra.proofs.Column.{flag-yes, flag-no}
 use Rattle.course.specs.declared.Step.{Step}
 use Rattle.course.specs.declared.Step.the-variants.{Mix, Check, Scale, Clear, Open}
 use Rattle.course.specs.declared.Order.{Order}
-use Rattle.course.specs.StepList.{columns, openings, stepList, nonzeroCost, sumOver, fullNonzero}
+use Rattle.course.specs.StepList.{stepList, costOf, nonzeroCost, opensOf, sumOver, fullNonzero}
 use Rattle.course.proofs.Within.{Within, within}
 use Rattle.course.proofs.Members.{AllIn, all-in}
-use Rattle.walk.specs.Act.{Held, held, opened, acted}
-use Rattle.walk.specs.Walk.{Tally, Course, running, stopped, opens, spent, settle, then, walk, fresh}
+use Rattle.walk.specs.Act.{held, opened, acted}
+use Rattle.walk.specs.Walk.{Tally, Course, running, stopped, opens, spent, then, walk, fresh}
+use Rattle.walk.proofs.Acted.{pivot, under, acted-sized, acted-places}
+use Rattle.walk.proofs.Walked.{settle, then-settled}
 use Rattle.meaning.specs.Meaning.{valueOf}
-use Rattle.meaning.proofs.Elements.{Element, O}
-use Rattle.meaning.proofs.Grid.{grid}
-use Rattle.meaning.proofs.Link.{lift-kept-value}
-use Rattle.meaning.proofs.Listed.{counted, countedAll, list-counted}
-use Rattle.walk.proofs.Acted.{pivot, acted-sized, acted-places}
-use Rattle.walk.proofs.Walked.{walk-append}
-use Rattle.meaning.proofs.Acted.{Sized, open-value, leaves, act-link}
+use Rattle.meaning.proofs.Link.{value-lt, mix-link, check-link, scale-link, clear-link, opens-link, lift-link}
+use Rattle.meaning.proofs.Listed as P
+use Rattle.meaning.proofs.Listed.{Acts, Performs}
 
 -- no draw that a full solve takes from the nonzero tape is 0
 abbrev pub NoZero : Order → List ℕ → Type 0
@@ -39,25 +37,19 @@ NoZero o zs = (k : ℕ) → k < fullNonzero o → drawAt (fieldOf (o .field)) zs
 module _ (o : Order) where
   -- what holds before the steps l: the lengths, and that their nonzero draws are among those of a full solve
   pub record Sound (l : List Step) (t : Tally) : Type 0 where
-    pub table : Sized o (t .left)
+    pub table : length (t .left .table) ≡ tableBytes (o .shares) (o .size) (o .size + 1)
     pub places : length (t .left .solution) ≡ o .size
     pub room : t .nonzero + sumOver (nonzeroCost o) l ≤ fullNonzero o
 
   -- the same of a walk that may have stopped
   abbrev pub SoundIn : List Step → Course → Type 0
   SoundIn l (running t) = Sound l t
-  SoundIn l (stopped j t) = (1 ≤ j) × (length (t .left .solution) ≡ o .size)
+  SoundIn l (stopped j t) = length (t .left .solution) ≡ o .size
 
-  -- the unknowns after the n-th stand in the solution
-  abbrev pub Known : ℕ → Course → Type 0
-  Known n (running t) =
-      (j : ℕ) → n < j → j ≤ o .size → getD (t .left .solution) (j - 1) 0 ≡ valueOf o (t .left .table) j (o .size + 1)
-  Known n (stopped j t) = Unit {0}
-
-  -- the walk's values
-  abbrev pub valuesOf : Course → A.Run (Element (o .field))
-  valuesOf (running t) = A.going (grid o (t .left .table))
-  valuesOf (stopped j t) = A.halted (j - 1) (grid o (t .left .table))
+  -- the walk's values, and the unknowns in its solution
+  abbrev pub valuesOf : Course → P.Run
+  valuesOf (running t) = P.going (valueOf o (t .left .table)) (λ c. getD (t .left .solution) (c - 1) 0)
+  valuesOf (stopped j t) = P.halted j
 
 module _ (o : Order) (some : 0 < o .shares) (ms zs : List ℕ) (nonzero : NoZero o zs) where
   abbrev m : ℕ
@@ -83,117 +75,80 @@ module _ (o : Order) (some : 0 < o .shares) (ms zs : List ℕ) (nonzero : NoZero
         room = omega (arith, g .room);
       }
 
-  settle-sound : (s : Step) (l : List Step) → Within m s → (x : ℕ) (t : Tally) → Sound o l t → SoundIn o l (settle o ms zs s x t)
-  settle-sound (Mix j k) l u x t g = g
-  settle-sound (Check j) l u x t g = go (eqb x 1)
+  settle-sound : (s : Step) (l : List Step) (x : ℕ) (t : Tally) → Sound o l t → SoundIn o l (settle (opensOf s) x t)
+  unfolding opensOf
+  settle-sound (Mix j k) l x t g = g
+  settle-sound (Check j) l x t g = go (eqb x 1)
     where
       go : (b : Bool) → SoundIn o l (pick b (stopped j t) (running t))
-      go true = (u .0, g .places)
+      go true = g .places
       go false = g
-  settle-sound (Scale j) l u x t g = g
-  settle-sound (Clear j k) l u x t g = g
-  settle-sound (Open j) l u x t g = g
+  settle-sound (Scale j) l x t g = g
+  settle-sound (Clear j k) l x t g = g
+  settle-sound (Open j) l x t g = g
 
   next-sound : (s : Step) (l : List Step) → Within m s → (c : Course) → SoundIn o (s ∷ l) c → SoundIn o l (then o ms zs s c)
-  next-sound s l u (running t) g = settle-sound s l u (opens o ms zs s t) (spent o ms zs s t) (after-sound s l u t g)
+  next-sound s l u (running t) g =
+      rw (then-settled o ms zs s t) (settle-sound s l (opens o ms zs s t) (spent o ms zs s t) (after-sound s l u t g))
   next-sound s l u (stopped j t) g = g
 
-  settle-values : (s : Step) (x : ℕ) (t : Tally) → valuesOf o (settle o ms zs s x t) ≡ leaves s x (grid o (t .left .table))
-  settle-values (Mix j k) x t = refl
-  settle-values (Check j) x t = go (eqb x 1)
-    where
-      go : (b : Bool) → valuesOf o (pick b (stopped j t) (running t))
-          ≡ pick b (A.halted (j - 1) (grid o (t .left .table))) (A.going (grid o (t .left .table)))
-      go true = refl
-      go false = refl
-  settle-values (Scale j) x t = refl
-  settle-values (Clear j k) x t = refl
-  settle-values (Open j) x t = refl
+  step-acts : (s : Step) (l : List Step) → Within m s → (t : Tally) → Sound o (s ∷ l) t
+      → Acts (fieldOf f) m s (valuesOf o (running t)) (valuesOf o (settle (opensOf s) (opens o ms zs s t) (spent o ms zs s t)))
+  unfolding acted opened opensOf costOf scaleNonzero
+  step-acts (Mix j k) l u t g =
+      P.mixed (value-lt o _)
+      (mix-link o some (t .left .table) (g .table) (pivot (u .0) (omega arith)) (under (u .0) (u .1) (u .2)) (drop (t .mask) ms))
+  step-acts (Check j) l u t g =
+      let e = check-link o some (t .left .table) (g .table) (pivot (u .0) (u .1)) (drop (t .mask) ms) in
+      elim (ℕ-discrete (valueOf o (t .left .table) j j) 0) [
+        | yes z ↦ rw (eq-eqb (opens o ms zs (Check j) t) 1 (e ∙ flag-yes z)) (P.halts z)
+        | no n ↦
+            let x : opens o ms zs (Check j) t ≡ 0 = e ∙ flag-no n in
+            rw (ne-eqb (opens o ms zs (Check j) t) 1 (λ y. omega arith)) (P.passed n)
+      ]
+  step-acts (Scale j) l u t g =
+      P.scaled (value-lt o _)
+      (scale-link o some (t .left .table) (g .table) (pivot (u .0) (u .1)) (drop (t .nonzero) zs) (drop (t .mask) ms) (drawn (Scale j) l t g))
+  step-acts (Clear j k) l u t g =
+      P.cleared (value-lt o _)
+      (clear-link o some (t .left .table) (g .table) (pivot (u .0) (omega arith)) (under (u .0) (u .1) (u .2)) (drop (t .mask) ms))
+  step-acts (Open j) l u t g =
+      let x : ℕ = opens o ms zs (Open j) t in
+      let e : x ≡ valueOf o (t .left .table) j (m + 1) =
+      opens-link o some (t .left .table) (g .table) (pivot (u .0) (u .1)) (drop (t .mask) ms) in
+      P.opened (lift-link o some (t .left .table) (g .table) (pivot (u .0) (u .1)) e)
+      (getD-set-same (t .left .solution) (j - 1) x 0 (omega (arith, u .0, u .1, g .places)) ∙ e)
+      (λ i a b. getD-set-other (t .left .solution) (j - 1) (i - 1) x 0 (omega (arith, u .0)))
 
-  next-values : (s : Step) (l : List Step) → Within m s → (c : Course) → SoundIn o (s ∷ l) c
-      → valuesOf o (then o ms zs s c) ≡ A.then (O f) m (counted s) (valuesOf o c)
-  next-values s l u (running t) g =
-      settle-values s (opens o ms zs s t) (spent o ms zs s t)
-      ∙ act-link o some s u (drop (t .mask) ms) (drop (t .nonzero) zs) (drawn s l t g) (t .left) (g .table)
-  next-values s l u (stopped j t) g = refl
+  next-acts : (s : Step) (l : List Step) → Within m s → (c : Course) → SoundIn o (s ∷ l) c
+      → Acts (fieldOf f) m s (valuesOf o c) (valuesOf o (then o ms zs s c))
+  next-acts s l u (running t) g = rw (then-settled o ms zs s t) (step-acts s l u t g)
+  next-acts s l u (stopped j t) g = P.over
 
   -- a list of steps
 
-  walk-values : (l : List Step) → AllIn m l → (c : Course) → SoundIn o l c
-      → valuesOf o (walk o ms zs l c) ≡ A.perform (O f) m (countedAll l) (valuesOf o c)
+  walk-performs : (l : List Step) → AllIn m l → (c : Course) → SoundIn o l c
+      → Performs (fieldOf f) m l (valuesOf o c) (valuesOf o (walk o ms zs l c))
   unfolding walk
-  walk-values [] a c g = sym (perform-none (O f) m (valuesOf o c))
-  walk-values (s ∷ l) a c g =
+  walk-performs [] a c g = P.none
+  walk-performs (s ∷ l) a c g =
       let u : Within m s = within m s (a .0) in
-      walk-values l (a .1) (then o ms zs s c) (next-sound s l u c g)
-      ∙ ap (A.perform (O f) m (countedAll l)) (next-values s l u c g)
-      ∙ sym (perform-more (O f) m (counted s) (countedAll l) (valuesOf o c))
+      P.more (next-acts s l u c g) (walk-performs l (a .1) (then o ms zs s c) (next-sound s l u c g))
 
-  walk-sound : (a b : List Step) → AllIn m (a ++ b) → (c : Course) → SoundIn o (a ++ b) c → SoundIn o b (walk o ms zs a c)
+  walk-sound : (l : List Step) → AllIn m l → (c : Course) → SoundIn o l c → SoundIn o [] (walk o ms zs l c)
   unfolding walk
-  walk-sound [] b i c g = g
-  walk-sound (s ∷ a) b i c g = walk-sound a b (i .1) (then o ms zs s c) (next-sound s (a ++ b) (within m s (i .0)) c g)
-
-  -- Open writes its own, and keeps the last entries of its row and those below
-  opened-known : (n : ℕ) → suc n ≤ m → (ds nz : List ℕ) (h : Held) → Sized o h → length (h .solution) ≡ m
-      → ((j : ℕ) → suc n < j → j ≤ m → getD (h .solution) (j - 1) 0 ≡ valueOf o (h .table) j (m + 1))
-      → (j : ℕ) → n < j → j ≤ m
-      → getD (acted o (Open (suc n)) ds nz h .solution) (j - 1) 0 ≡ valueOf o (acted o (Open (suc n)) ds nz h .table) j (m + 1)
-  unfolding acted
-  opened-known n b ds nz h lt lx k j g i =
-      let P : Place m (m + 1) (suc n) (suc n) = pivot (omega arith) b in
-      let x : ℕ = opened o (Open (suc n)) ds h in
-      let R : Place m (m + 1) j (m + 1) =
-      record { row-low = omega arith; row-high = i; column-low = omega arith; column-high = omega arith } in
-      elim (ℕ-discrete j (suc n)) [
-        | yes e ↦ rw e (getD-set-same (h .solution) (suc n - 1) x 0 (omega arith) ∙ open-value o some (omega arith) b ds h lt)
-        | no d ↦ getD-set-other (h .solution) (suc n - 1) (j - 1) x 0 (omega arith) ∙ k j (omega arith) i
-      ]
-      ∙ sym (lift-kept-value o some (h .table) lt P x R (λ e. omega arith))
-
-  open-known : (n : ℕ) → suc n ≤ m → (l : List Step) (c : Course) → SoundIn o l c → Known o (suc n) c
-      → Known o n (then o ms zs (Open (suc n)) c)
-  open-known n b l (stopped j t) g k = tt
-  open-known n b l (running t) g k = opened-known n b (drop (t .mask) ms) (drop (t .nonzero) zs) (t .left) (g .table) (g .places) k
-
-  openings-known : (n : ℕ) → n ≤ m → (c : Course) → SoundIn o (openings n) c → Known o n c → Known o 0 (walk o ms zs (openings n) c)
-  unfolding openings walk
-  openings-known zero b c g k = k
-  openings-known (suc n) b c g k =
-      openings-known n (omega arith) (then o ms zs (Open (suc n)) c) (next-sound (Open (suc n)) (openings n) (omega arith, b) c g)
-      (open-known n b (Open (suc n) ∷ openings n) c g k)
-
-  none-known : (c : Course) → Known o m c
-  none-known (running t) = λ j h i. absurd (let z : ⊥ = omega arith in z)
-  none-known (stopped j t) = tt
+  walk-sound [] a c g = g
+  walk-sound (s ∷ l) a c g = walk-sound l (a .1) (then o ms zs s c) (next-sound s l (within m s (a .0)) c g)
 
   -- the whole list
 
-  module _ (t x : List ℕ) (lt : Sized o (held t x)) (lx : length x ≡ m) where
-    begin : Course
-    begin = running (fresh (held t x))
+  module _ (t x : List ℕ) (lt : length t ≡ tableBytes (o .shares) m (m + 1)) (lx : length x ≡ m) where
+    begin : SoundIn o (stepList m) (running (fresh (held t x)))
+    begin = record { table = lt; places = lx; room = omega arith }
 
-    begin-sound : SoundIn o (stepList m) begin
-    unfolding begin
-    begin-sound = record { table = lt; places = lx; room = omega arith }
-
-    pub walked-values : valuesOf o (walk o ms zs (stepList m) (running (fresh (held t x))))
-        ≡ A.perform (O f) m (A.steps m) (A.going (grid o t))
-    unfolding begin
-    walked-values =
-        walk-values (stepList m) (all-in m) begin begin-sound
-        ∙ ap (λ (l : List A.Step). A.perform (O f) m l (A.going (grid o t))) (list-counted m)
+    pub walked : Performs (fieldOf f) m (stepList m) (valuesOf o (running (fresh (held t x))))
+        (valuesOf o (walk o ms zs (stepList m) (running (fresh (held t x)))))
+    walked = walk-performs (stepList m) (all-in m) (running (fresh (held t x))) begin
 
     pub walked-sound : SoundIn o [] (walk o ms zs (stepList m) (running (fresh (held t x))))
-    unfolding begin
-    walked-sound =
-        let e : stepList m ++ [] ≡ stepList m = append-nil (stepList m) in
-        walk-sound (stepList m) [] (rw e (all-in m)) begin (rw e begin-sound)
-
-    pub walked-known : Known o 0 (walk o ms zs (stepList m) (running (fresh (held t x))))
-    unfolding begin stepList
-    walked-known =
-        rw (walk-append o ms zs (columns m 1 m) (openings m) begin)
-        (openings-known m (le-refl m) (walk o ms zs (columns m 1 m) begin)
-        (walk-sound (columns m 1 m) (openings m) (all-in m) begin begin-sound)
-        (none-known (walk o ms zs (columns m 1 m) begin)))
+    walked-sound = walk-sound (stepList m) (all-in m) (running (fresh (held t x))) begin

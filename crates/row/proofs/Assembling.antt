@@ -11,11 +11,13 @@ use lib.Seq.{getD-take, getD-drop}
 use Rattle.field.specs.Field.{Binary, fieldOf, width}
 use Rattle.sharing.specs.Run.{before, pairs}
 use Rattle.sharing.specs.Rules.{drawAt, crossed, productOver, product}
-use Rattle.row.specs.Spread.{spreadAll}
-use Rattle.row.specs.Products.{term, allProducts}
-use Rattle.row.specs.Gather.{later, gathered, gatherAll}
+use Rattle.row.specs.Code.Streams.{repeated, doubledRows}
+use Rattle.row.specs.Code.Spread.{spreadAll}
+use Rattle.row.specs.Code.Products.{term, allProducts}
+use Rattle.row.specs.Code.Gather.{later, gathered, gatherAll}
 use Rattle.sharing.specs.Lists.{Below}
-use Rattle.row.specs.Shares.{ownDraws, Products}
+use Rattle.row.specs.Code.Shares.{ownDraws}
+use Rattle.row.specs.Rows.{Products}
 use Rattle.row.proofs.Streaming.{stream, stream-at, stream-next}
 use Rattle.row.proofs.Spreading.{spread-own, spread-pair, spread-none, spread-length}
 use Rattle.row.proofs.Producing.{products-at}
@@ -142,3 +144,11 @@ module _ {f : ℕ} (B : Binary f) (n columns turns r j blocks e wide w : ℕ) (d
               (λ x h. ap (λ (y : ℕ). y % fieldOf f .q) (sym (getD-drop (u * pairs n) ds x 0)) ∙ sym (mod-mod _ (fieldOf f .q))) s hs
               ∙ ap (λ (y : ℕ). getD (productOver (fieldOf f) (drawAt (fieldOf f) (drop (u * pairs n) ds)) (P u) y) s 0 % fieldOf f .q) (sym shares);
         }
+
+    -- the same of what each pass leaves, as a caller has it: replaced here, where few facts stand by, and not in each caller's goal
+    pub passes-left : (c₁ m₁ m₂ c₂ out : List ℕ)
+        → c₁ ≡ spreadAll n columns w ds c → m₁ ≡ repeated n turns a m → m₂ ≡ doubledRows (width f) r m₁
+        → c₂ ≡ allProducts (width f) n (j * n) r blocks w row m₂ c₁ → out ≡ gatherAll n (e * n) wide w c₂ k row
+        → Products (fieldOf f) n columns ds a row out
+    unfolding D C M stream
+    passes-left c₁ m₁ m₂ c₂ out ec em ed ep eg = rw (eg, ep, ed, em, ec) passes-products

@@ -9,7 +9,7 @@ use native.Mathlib.Decide.{decLt}
 use lib.Bits.{bitXor, xor-zero-l}
 use lib.ListN.{getD}
 use Rattle.sharing.specs.Run.{before}
-use Rattle.row.specs.Shares.{ownDraws}
+use Rattle.row.specs.Code.Shares.{ownDraws}
 
 -- ---- blocks of j columns
 

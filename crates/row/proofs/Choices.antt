@@ -9,7 +9,7 @@ use lib.ListN.{getD}
 use borrow.Author.Tests.{lt-ltb, le-leb, lt-leb}
 use Rattle.field.specs.Field.{pick}
 use Rattle.field.proofs.Linear.{all, all-at}
-use Rattle.row.specs.Gather.{later}
+use Rattle.row.specs.Code.Gather.{later}
 
 -- ---- the two cases
 

@@ -14,8 +14,8 @@ use Rattle.field.specs.Field.{pick, Binary, fieldOf, F16, F256}
 use Rattle.field.proofs.Fields.{xor-same}
 use Rattle.sharing.specs.Run.{run, before}
 use Rattle.sharing.proofs.Pairs.{run-holds}
-use Rattle.row.specs.Gather.{gatherTurn, gathered}
-use Rattle.row.specs.Shares.{ownDraws, pairSum, shareSum}
+use Rattle.row.specs.Code.Gather.{gatherTurn, gathered}
+use Rattle.row.specs.Code.Shares.{ownDraws, pairSum, shareSum}
 
 -- ---- a byte that chooses
 

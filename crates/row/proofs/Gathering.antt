@@ -9,7 +9,7 @@ use lib.ListN.{length, getD, set, length-set}
 use lib.Seq.{getD-set-same, getD-set-other}
 use Rattle.sharing.proofs.Pairs.{run-holds}
 use Rattle.row.proofs.Places.{place-in}
-use Rattle.row.specs.Gather.{gathered, blockTurn, gatherBlock, gatherAll}
+use Rattle.row.specs.Code.Gather.{gathered, blockTurn, gatherBlock, gatherAll}
 
 module _ (n l blocks w : ℕ) (c k out : List ℕ) where
   -- after u blocks, and j bytes of the next one

@@ -11,7 +11,7 @@ use lib.ListN.{length, getD, length-set}
 use lib.Seq.{getD-set-same, getD-set-other}
 use Rattle.sharing.proofs.Pairs.{run-holds}
 use Rattle.row.proofs.Places.{place-in, same-row, same-place}
-use Rattle.row.specs.Products.{term, byteTurn, byteProducts, productTurn, blockProducts, allProducts}
+use Rattle.row.specs.Code.Products.{term, byteTurn, byteProducts, productTurn, blockProducts, allProducts}
 
 -- ---- a byte
 

@@ -15,7 +15,7 @@ use Rattle.sharing.proofs.Pairs.{tab-at, tab-length}
 use Rattle.sharing.specs.Lists.{Below}
 use Rattle.sharing.proofs.Draws.{productOver-ext}
 use Rattle.sharing.proofs.Elements.{draw-lt, tab-below}
-use Rattle.row.specs.Shares.{Products}
+use Rattle.row.specs.Rows.{Products}
 
 module _ (F : Ops) (L : Field F) (factor : List ℕ) where
   pub reduced-below : Below (F .q) (tab (length factor) (drawAt F factor))

@@ -15,7 +15,7 @@ use Rattle.field.proofs.Xor.{xor-assoc}
 use Rattle.sharing.specs.Run.{run, before, pairs, pairTurn, pairsOf, overPairs, tab}
 use Rattle.sharing.specs.Rules.{addAt, subAt, productTurn, productOver}
 use Rattle.sharing.proofs.Pairs.{run-holds, pair-lt, tab-length, tab-at}
-use Rattle.row.specs.Shares.{ownDraws, pairSum, shareSum}
+use Rattle.row.specs.Code.Shares.{ownDraws, pairSum, shareSum}
 use Rattle.row.proofs.OneTurn.{run-keeps, run-one}
 
 -- ---- the order in which numbers join

@@ -11,8 +11,8 @@ use Rattle.sharing.specs.Run.{run, before, pairs, pairTurn, pairsOf, overPairs}
 use Rattle.sharing.proofs.Loops.{run-length}
 use Rattle.sharing.proofs.Pairs.{run-holds, over-length}
 use Rattle.sharing.specs.Code.Bytes.{xorAt}
-use Rattle.row.specs.Spread.{spreadTurn, spreadColumn, spreadAll}
-use Rattle.row.specs.Shares.{ownDraws}
+use Rattle.row.specs.Code.Spread.{spreadTurn, spreadColumn, spreadAll}
+use Rattle.row.specs.Code.Shares.{ownDraws}
 use Rattle.row.proofs.Places.{place-in, same-row}
 use Rattle.row.proofs.OneTurn.{run-keeps, run-one}
 

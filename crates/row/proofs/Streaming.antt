@@ -11,7 +11,7 @@ use lib.Seq.{getD-set-same, getD-set-other}
 use Rattle.sharing.specs.Run.{run}
 use Rattle.sharing.proofs.Loops.{run-length}
 use Rattle.sharing.proofs.Pairs.{run-holds}
-use Rattle.row.specs.Streams.{doubled, onceTurn, repeatTurn, repeated, doubleTurn, doubledRows}
+use Rattle.row.specs.Code.Streams.{doubled, onceTurn, repeatTurn, repeated, doubleTurn, doubledRows}
 
 -- ---- the factor's shares, over and over
 

@@ -16,8 +16,8 @@ use Rattle.field.specs.Field.{pick, binary, F16, F256, fieldOf, width}
 use Rattle.field.proofs.Linear.{all}
 use Rattle.field.proofs.Shift.{double, shift-add, same?, shift-add-product, test4, test8}
 use Rattle.sharing.proofs.Loops.{taken-more}
-use Rattle.row.specs.Products.{term}
-use Rattle.row.specs.Streams.{doubled}
+use Rattle.row.specs.Code.Products.{term}
+use Rattle.row.specs.Code.Streams.{doubled}
 
 -- k turns look at k bits
 lowest : (w p k a y : ℕ) → shift-add w p k a y ≡ shift-add w p k a (y % 2 ^ k)

@@ -1,5 +1,2 @@
-pub mod Spread
-pub mod Streams
-pub mod Products
-pub mod Gather
-pub mod Shares
+pub mod Rows
+pub mod Code

@@ -16,13 +16,23 @@ ghost use Rattle.field.specs.Field.{fieldOf, draw};
 ghost use Rattle.sharing.specs.Run.{run, tab, before, pairs, pairsOf, overPairs};
 ghost use Rattle.sharing.specs.Rules.{drawAt};
 ghost use Rattle.sharing.specs.Lists.{Below};
-ghost use Rattle.row.specs.Streams.{doubled, onceTurn, repeated, doubledRows};
-ghost use Rattle.row.specs.Spread.{spreadTurn, spreadAll};
-ghost use Rattle.row.specs.Products.{term, byteProducts, productTurn, allProducts};
-ghost use Rattle.row.specs.Gather.{gathered, blockTurn, gatherAll};
-ghost use Rattle.row.specs.Shares.{Products};
+ghost use Rattle.sharing.specs.Bounds.{mostWidth, rowRoom};
+ghost use Rattle.row.specs.Code.Streams.{doubled, onceTurn, repeated, doubledRows};
+ghost use Rattle.row.specs.Code.Spread.{spreadTurn, spreadAll};
+ghost use Rattle.row.specs.Code.Products.{term, byteProducts, productTurn, allProducts};
+ghost use Rattle.row.specs.Code.Gather.{gathered, blockTurn, gatherAll};
+ghost use Rattle.row.specs.Rows.{Products};
 
 mod later;
+
+// Room for a row, and for n work rows: whole blocks of 16 or 48 bytes.
+pub const ROW_ROOM: usize = (sharing::MOST_WIDTH * 4 + 15) / 16 * 16;
+
+const WORK_ROOM_2: usize = 2 * ((sharing::MOST_WIDTH * 2 + 47) / 48 * 48);
+
+const WORK_ROOM_3: usize = 3 * ((sharing::MOST_WIDTH * 3 + 47) / 48 * 48);
+
+const WORK_ROOM_4: usize = 4 * ROW_ROOM;
 
 // An element times the polynomial x.
 fn doubled(width: usize, x: u8) -> u8
@@ -68,7 +78,7 @@ fn double_rows(width: usize, r: usize, m: &mut [u8])
 
 // The pairs of i; the first of them is pair number at of the column's, whose first byte is at a and whose first draw is number b.
 fn spread_of(n: usize, w: usize, c: &mut [u8], a: usize, z: &[u8], b: usize, i: usize, at: usize)
-    requires { ⌜ (n ≤ 4) × (i < n) × (at ≡ before n i) × (a + n ≤ w) × (w ≤ 400) × (n * w ≤ length (now c)) × (b + pairs n ≤ length (now z)) ⌝ }
+    requires { ⌜ (n ≤ 4) × (i < n) × (at ≡ before n i) × (a + n ≤ w) × (w ≤ rowRoom) × (n * w ≤ length (now c)) × (b + pairs n ≤ length (now z)) ⌝ }
     ensures { λ r. ⌜ now (c .exit) ≡ pairsOf (spreadTurn w (now (z .entry)) a b) n i (now (c .entry)) ⌝ }
 {
     let m = n - 1 - i;
@@ -85,7 +95,7 @@ fn spread_of(n: usize, w: usize, c: &mut [u8], a: usize, z: &[u8], b: usize, i: 
 
 // One column.
 fn spread_column(n: usize, w: usize, c: &mut [u8], a: usize, z: &[u8], b: usize)
-    requires { ⌜ (n ≤ 4) × (a + n ≤ w) × (w ≤ 400) × (n * w ≤ length (now c)) × (b + pairs n ≤ length (now z)) ⌝ }
+    requires { ⌜ (n ≤ 4) × (a + n ≤ w) × (w ≤ rowRoom) × (n * w ≤ length (now c)) × (b + pairs n ≤ length (now z)) ⌝ }
     ensures { λ r. ⌜ now (c .exit) ≡ overPairs (spreadTurn w (now (z .entry)) a b) n (now (c .entry)) ⌝ }
 {
     let mut at: usize = 0;
@@ -96,7 +106,7 @@ fn spread_column(n: usize, w: usize, c: &mut [u8], a: usize, z: &[u8], b: usize)
 }
 
 fn spread(n: usize, np: usize, columns: usize, w: usize, c: &mut [u8], z: &[u8])
-    requires { ⌜ (n ≤ 4) × (np ≡ pairs n) × (columns * n ≤ w) × (w ≤ 400) × (n * w ≤ length (now c)) × (columns * pairs n ≤ length (now z)) ⌝ }
+    requires { ⌜ (n ≤ 4) × (np ≡ pairs n) × (columns * n ≤ w) × (w ≤ rowRoom) × (n * w ≤ length (now c)) × (columns * pairs n ≤ length (now z)) ⌝ }
     ensures { λ r. ⌜ now (c .exit) ≡ spreadAll n columns w (now (z .entry)) (now (c .entry)) ⌝ }
 {
     let mut a: usize = 0;
@@ -136,7 +146,7 @@ fn product_byte(
     o: usize,
     q: usize,
 )
-    requires { ⌜ (width ≤ 8) × (r ≤ 64) × (q + n < r) × (width * r ≤ length (now m)) × (n ≤ 4) × (o < w) × (w ≤ 400) × (n * w ≤ length (now c)) ⌝ }
+    requires { ⌜ (width ≤ 8) × (r ≤ 64) × (q + n < r) × (width * r ≤ length (now m)) × (n ≤ 4) × (o < w) × (w ≤ rowRoom) × (n * w ≤ length (now c)) ⌝ }
     ensures { λ x. ⌜ now (c .exit) ≡ byteProducts width n r w (now (m .entry)) y o q (now (c .entry)) ⌝ }
 {
     let mut at: usize = o;
@@ -159,7 +169,7 @@ fn product_block(
     m: &[u8],
     at: usize,
 )
-    requires { ⌜ (width ≤ 8) × (r ≤ 64) × (l + n ≤ r) × (width * r ≤ length (now m)) × (n ≤ 4) × (at + l ≤ w) × (w ≤ 400) × (n * w ≤ length (now c)) × (at + l ≤ length (now b)) ⌝ }
+    requires { ⌜ (width ≤ 8) × (r ≤ 64) × (l + n ≤ r) × (width * r ≤ length (now m)) × (n ≤ 4) × (at + l ≤ w) × (w ≤ rowRoom) × (n * w ≤ length (now c)) × (at + l ≤ length (now b)) ⌝ }
     ensures { λ x. ⌜ now (c .exit) ≡ run (productTurn width n r w (now (b .entry)) (now (m .entry)) at) l (now (c .entry)) ⌝ }
 {
     for q in 0..l {
@@ -179,7 +189,7 @@ fn products(
     b: &[u8],
     m: &[u8],
 )
-    requires { ⌜ (width ≤ 8) × (r ≤ 64) × (l + n ≤ r) × (width * r ≤ length (now m)) × (n ≤ 4) × (blocks * l ≤ w) × (w ≤ 400) × (n * w ≤ length (now c)) × (blocks * l ≤ length (now b)) ⌝ }
+    requires { ⌜ (width ≤ 8) × (r ≤ 64) × (l + n ≤ r) × (width * r ≤ length (now m)) × (n ≤ 4) × (blocks * l ≤ w) × (w ≤ rowRoom) × (n * w ≤ length (now c)) × (blocks * l ≤ length (now b)) ⌝ }
     ensures { λ x. ⌜ now (c .exit) ≡ allProducts width n l r blocks w (now (b .entry)) (now (m .entry)) (now (c .entry)) ⌝ }
 {
     let mut at: usize = 0;
@@ -192,7 +202,7 @@ fn products(
 // Byte o, which is byte q of its block. What stands in row d and what stands d places before in row n - d join each other first: the draw
 // is in one of the two.
 fn gather_byte(n: usize, l: usize, w: usize, c: &[u8], k: &[u8], o: usize, q: usize) -> u8
-    requires { ⌜ (1 ≤ n) × (n ≤ 4) × (q < l) × (l ≤ 48) × (n * l ≤ length (now k)) × (n ≤ w) × (o < w) × (w ≤ 400) × (n * w ≤ length (now c)) ⌝ }
+    requires { ⌜ (1 ≤ n) × (n ≤ 4) × (q < l) × (l ≤ 48) × (n * l ≤ length (now k)) × (n ≤ w) × (o < w) × (w ≤ rowRoom) × (n * w ≤ length (now c)) ⌝ }
     ensures { λ r. ⌜ r ≡ gathered n l w (now (c .entry)) (now (k .entry)) o q ⌝ }
 {
     let mut v = c[o];
@@ -209,7 +219,7 @@ fn gather_byte(n: usize, l: usize, w: usize, c: &[u8], k: &[u8], o: usize, q: us
 
 // The block of l bytes that begins at `at`.
 fn gather_block(n: usize, l: usize, w: usize, out: &mut [u8], c: &[u8], k: &[u8], at: usize)
-    requires { ⌜ (1 ≤ n) × (n ≤ 4) × (l ≤ 48) × (n * l ≤ length (now k)) × (n ≤ w) × (at + l ≤ w) × (w ≤ 400) × (n * w ≤ length (now c)) × (w ≤ length (now out)) ⌝ }
+    requires { ⌜ (1 ≤ n) × (n ≤ 4) × (l ≤ 48) × (n * l ≤ length (now k)) × (n ≤ w) × (at + l ≤ w) × (w ≤ rowRoom) × (n * w ≤ length (now c)) × (w ≤ length (now out)) ⌝ }
     ensures { λ r. ⌜ now (out .exit) ≡ run (blockTurn n l w (now (c .entry)) (now (k .entry)) at) l (now (out .entry)) ⌝ }
 {
     for q in 0..l {
@@ -219,7 +229,7 @@ fn gather_block(n: usize, l: usize, w: usize, out: &mut [u8], c: &[u8], k: &[u8]
 }
 
 fn gather(n: usize, l: usize, blocks: usize, w: usize, out: &mut [u8], c: &[u8], k: &[u8])
-    requires { ⌜ (1 ≤ n) × (n ≤ 4) × (l ≤ 48) × (n * l ≤ length (now k)) × (n ≤ w) × (blocks * l ≤ w) × (w ≤ 400) × (n * w ≤ length (now c)) × (w ≤ length (now out)) ⌝ }
+    requires { ⌜ (1 ≤ n) × (n ≤ 4) × (l ≤ 48) × (n * l ≤ length (now k)) × (n ≤ w) × (blocks * l ≤ w) × (w ≤ rowRoom) × (n * w ≤ length (now c)) × (w ≤ length (now out)) ⌝ }
     ensures { λ r. ⌜ now (out .exit) ≡ gatherAll n l blocks w (now (c .entry)) (now (k .entry)) (now (out .entry)) ⌝ }
 {
     let mut at: usize = 0;
@@ -232,7 +242,7 @@ fn gather(n: usize, l: usize, blocks: usize, w: usize, out: &mut [u8], c: &[u8],
 // The passes for a field and a number of shares. The numbers stand in the calls themselves, so that the compiler unrolls what goes over shares
 // and bits: the blocks are 16 bytes, or 48, where 16 is no multiple of n or the body is so small that it would unroll the block too.
 fn product_16_2(columns: usize, row: &mut [u8], a: &[u8], mask: &[u8])
-    requires { ⌜ (1 ≤ columns) × (columns ≤ 97) × (length (now row) ≡ 400) × (length (now a) ≡ 2) × (columns * pairs 2 ≤ length (now mask)) ⌝ }
+    requires { ⌜ (1 ≤ columns) × (columns ≤ mostWidth) × (length (now row) ≡ rowRoom) × (length (now a) ≡ 2) × (columns * pairs 2 ≤ length (now mask)) ⌝ }
     requires { ⌜ Below 16 (now a) ⌝ }
     ensures { λ r. ⌜ Products (fieldOf 16) 2 columns (now (mask .entry)) (now (a .entry)) (now (row .entry)) (now (row .exit)) ⌝ }
 {
@@ -240,7 +250,7 @@ fn product_16_2(columns: usize, row: &mut [u8], a: &[u8], mask: &[u8])
     let blocks = (len + 15) / 16;
     let wide = (len + 47) / 48;
     let w = wide * 48;
-    let mut c = [0u8; 480];
+    let mut c = [0u8; WORK_ROOM_2];
     let mut m = [0u8; 128];
     let k = later::LATER_2;
     spread(2, 1, columns, w, &mut c[..], mask);
@@ -251,7 +261,7 @@ fn product_16_2(columns: usize, row: &mut [u8], a: &[u8], mask: &[u8])
 }
 
 fn product_256_2(columns: usize, row: &mut [u8], a: &[u8], mask: &[u8])
-    requires { ⌜ (1 ≤ columns) × (columns ≤ 97) × (length (now row) ≡ 400) × (length (now a) ≡ 2) × (columns * pairs 2 ≤ length (now mask)) ⌝ }
+    requires { ⌜ (1 ≤ columns) × (columns ≤ mostWidth) × (length (now row) ≡ rowRoom) × (length (now a) ≡ 2) × (columns * pairs 2 ≤ length (now mask)) ⌝ }
     requires { ⌜ Below 256 (now a) ⌝ }
     ensures { λ r. ⌜ Products (fieldOf 256) 2 columns (now (mask .entry)) (now (a .entry)) (now (row .entry)) (now (row .exit)) ⌝ }
 {
@@ -259,7 +269,7 @@ fn product_256_2(columns: usize, row: &mut [u8], a: &[u8], mask: &[u8])
     let blocks = (len + 15) / 16;
     let wide = (len + 47) / 48;
     let w = wide * 48;
-    let mut c = [0u8; 480];
+    let mut c = [0u8; WORK_ROOM_2];
     let mut m = [0u8; 256];
     let k = later::LATER_2;
     spread(2, 1, columns, w, &mut c[..], mask);
@@ -270,7 +280,7 @@ fn product_256_2(columns: usize, row: &mut [u8], a: &[u8], mask: &[u8])
 }
 
 fn product_16_3(columns: usize, row: &mut [u8], a: &[u8], mask: &[u8])
-    requires { ⌜ (1 ≤ columns) × (columns ≤ 97) × (length (now row) ≡ 400) × (length (now a) ≡ 3) × (columns * pairs 3 ≤ length (now mask)) ⌝ }
+    requires { ⌜ (1 ≤ columns) × (columns ≤ mostWidth) × (length (now row) ≡ rowRoom) × (length (now a) ≡ 3) × (columns * pairs 3 ≤ length (now mask)) ⌝ }
     requires { ⌜ Below 16 (now a) ⌝ }
     ensures { λ r. ⌜ Products (fieldOf 16) 3 columns (now (mask .entry)) (now (a .entry)) (now (row .entry)) (now (row .exit)) ⌝ }
 {
@@ -278,7 +288,7 @@ fn product_16_3(columns: usize, row: &mut [u8], a: &[u8], mask: &[u8])
     let blocks = (len + 47) / 48;
     let wide = (len + 47) / 48;
     let w = wide * 48;
-    let mut c = [0u8; 1008];
+    let mut c = [0u8; WORK_ROOM_3];
     let mut m = [0u8; 256];
     let k = later::LATER_3;
     spread(3, 3, columns, w, &mut c[..], mask);
@@ -289,7 +299,7 @@ fn product_16_3(columns: usize, row: &mut [u8], a: &[u8], mask: &[u8])
 }
 
 fn product_256_3(columns: usize, row: &mut [u8], a: &[u8], mask: &[u8])
-    requires { ⌜ (1 ≤ columns) × (columns ≤ 97) × (length (now row) ≡ 400) × (length (now a) ≡ 3) × (columns * pairs 3 ≤ length (now mask)) ⌝ }
+    requires { ⌜ (1 ≤ columns) × (columns ≤ mostWidth) × (length (now row) ≡ rowRoom) × (length (now a) ≡ 3) × (columns * pairs 3 ≤ length (now mask)) ⌝ }
     requires { ⌜ Below 256 (now a) ⌝ }
     ensures { λ r. ⌜ Products (fieldOf 256) 3 columns (now (mask .entry)) (now (a .entry)) (now (row .entry)) (now (row .exit)) ⌝ }
 {
@@ -297,7 +307,7 @@ fn product_256_3(columns: usize, row: &mut [u8], a: &[u8], mask: &[u8])
     let blocks = (len + 47) / 48;
     let wide = (len + 47) / 48;
     let w = wide * 48;
-    let mut c = [0u8; 1008];
+    let mut c = [0u8; WORK_ROOM_3];
     let mut m = [0u8; 512];
     let k = later::LATER_3;
     spread(3, 3, columns, w, &mut c[..], mask);
@@ -308,7 +318,7 @@ fn product_256_3(columns: usize, row: &mut [u8], a: &[u8], mask: &[u8])
 }
 
 fn product_16_4(columns: usize, row: &mut [u8], a: &[u8], mask: &[u8])
-    requires { ⌜ (1 ≤ columns) × (columns ≤ 97) × (length (now row) ≡ 400) × (length (now a) ≡ 4) × (columns * pairs 4 ≤ length (now mask)) ⌝ }
+    requires { ⌜ (1 ≤ columns) × (columns ≤ mostWidth) × (length (now row) ≡ rowRoom) × (length (now a) ≡ 4) × (columns * pairs 4 ≤ length (now mask)) ⌝ }
     requires { ⌜ Below 16 (now a) ⌝ }
     ensures { λ r. ⌜ Products (fieldOf 16) 4 columns (now (mask .entry)) (now (a .entry)) (now (row .entry)) (now (row .exit)) ⌝ }
 {
@@ -316,7 +326,7 @@ fn product_16_4(columns: usize, row: &mut [u8], a: &[u8], mask: &[u8])
     let blocks = (len + 15) / 16;
     let wide = (len + 15) / 16;
     let w = wide * 16;
-    let mut c = [0u8; 1600];
+    let mut c = [0u8; WORK_ROOM_4];
     let mut m = [0u8; 128];
     let k = later::LATER_4;
     spread(4, 6, columns, w, &mut c[..], mask);
@@ -327,7 +337,7 @@ fn product_16_4(columns: usize, row: &mut [u8], a: &[u8], mask: &[u8])
 }
 
 fn product_256_4(columns: usize, row: &mut [u8], a: &[u8], mask: &[u8])
-    requires { ⌜ (1 ≤ columns) × (columns ≤ 97) × (length (now row) ≡ 400) × (length (now a) ≡ 4) × (columns * pairs 4 ≤ length (now mask)) ⌝ }
+    requires { ⌜ (1 ≤ columns) × (columns ≤ mostWidth) × (length (now row) ≡ rowRoom) × (length (now a) ≡ 4) × (columns * pairs 4 ≤ length (now mask)) ⌝ }
     requires { ⌜ Below 256 (now a) ⌝ }
     ensures { λ r. ⌜ Products (fieldOf 256) 4 columns (now (mask .entry)) (now (a .entry)) (now (row .entry)) (now (row .exit)) ⌝ }
 {
@@ -335,7 +345,7 @@ fn product_256_4(columns: usize, row: &mut [u8], a: &[u8], mask: &[u8])
     let blocks = (len + 15) / 16;
     let wide = (len + 15) / 16;
     let w = wide * 16;
-    let mut c = [0u8; 1600];
+    let mut c = [0u8; WORK_ROOM_4];
     let mut m = [0u8; 256];
     let k = later::LATER_4;
     spread(4, 6, columns, w, &mut c[..], mask);
@@ -346,7 +356,7 @@ fn product_256_4(columns: usize, row: &mut [u8], a: &[u8], mask: &[u8])
 }
 
 fn product_16(n: usize, columns: usize, row: &mut [u8], a: &[u8], mask: &[u8])
-    requires { ⌜ (2 ≤ n) × (n ≤ 4) × (1 ≤ columns) × (columns ≤ 97) × (length (now row) ≡ 400) × (length (now a) ≡ n) × (columns * pairs n ≤ length (now mask)) ⌝ }
+    requires { ⌜ (2 ≤ n) × (n ≤ 4) × (1 ≤ columns) × (columns ≤ mostWidth) × (length (now row) ≡ rowRoom) × (length (now a) ≡ n) × (columns * pairs n ≤ length (now mask)) ⌝ }
     requires { ⌜ Below 16 (now a) ⌝ }
     ensures { λ r. ⌜ Products (fieldOf 16) n columns (now (mask .entry)) (now (a .entry)) (now (row .entry)) (now (row .exit)) ⌝ }
 {
@@ -362,7 +372,7 @@ fn product_16(n: usize, columns: usize, row: &mut [u8], a: &[u8], mask: &[u8])
 }
 
 fn product_256(n: usize, columns: usize, row: &mut [u8], a: &[u8], mask: &[u8])
-    requires { ⌜ (2 ≤ n) × (n ≤ 4) × (1 ≤ columns) × (columns ≤ 97) × (length (now row) ≡ 400) × (length (now a) ≡ n) × (columns * pairs n ≤ length (now mask)) ⌝ }
+    requires { ⌜ (2 ≤ n) × (n ≤ 4) × (1 ≤ columns) × (columns ≤ mostWidth) × (length (now row) ≡ rowRoom) × (length (now a) ≡ n) × (columns * pairs n ≤ length (now mask)) ⌝ }
     requires { ⌜ Below 256 (now a) ⌝ }
     ensures { λ r. ⌜ Products (fieldOf 256) n columns (now (mask .entry)) (now (a .entry)) (now (row .entry)) (now (row .exit)) ⌝ }
 {
@@ -389,7 +399,7 @@ fn reduced(f: u64, a: &mut [u8], factor: &[u8])
 
 // The entries of a row, which begins with `columns` of them, become Product(factor, entry), each share modulo q.
 pub fn product(f: u64, n: usize, columns: usize, row: &mut [u8], factor: &[u8], mask: &[u8])
-    requires { ⌜ (2 ≤ n) × (n ≤ 4) × (1 ≤ columns) × (columns ≤ 97) × (length (now row) ≡ 400) × (length (now factor) ≡ n) × (columns * pairs n ≤ length (now mask)) ⌝ }
+    requires { ⌜ (2 ≤ n) × (n ≤ 4) × (1 ≤ columns) × (columns ≤ mostWidth) × (length (now row) ≡ rowRoom) × (length (now factor) ≡ n) × (columns * pairs n ≤ length (now mask)) ⌝ }
     ensures { λ r. ⌜ Products (fieldOf f) n columns (now (mask .entry)) (now (factor .entry)) (now (row .entry)) (now (row .exit)) ⌝ }
 {
     let mut a = [0u8; 4];

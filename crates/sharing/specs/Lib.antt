@@ -1,3 +1,4 @@
+pub mod Bounds
 pub mod Run
 pub mod Rules
 pub mod Lists

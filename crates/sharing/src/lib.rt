@@ -9,6 +9,11 @@ ghost use Rattle.field.specs.Field.{F16, fieldOf};
 ghost use Rattle.sharing.specs.Run.{tab, before, pairs, pairsOf};
 ghost use Rattle.sharing.specs.Rules.{sum, drawAt, addAt, subAt, refreshTurn, refresh, pairRefreshTurn, pairRefresh, opening, scaled, blindTurn, blinded, blindedValue, factors, fourOf, inversionDraws};
 
+// The limits of 01, as in specs/Bounds.
+pub const MOST_ROWS: u64 = 96;
+
+pub const MOST_WIDTH: usize = 97;
+
 // The answer of an inversion: n factors whose product is the inverse; places not in use are 0.
 pub struct Factors {
     pub f: [u8; 4],

@@ -1,4 +1,4 @@
-// Printing for the programs examples, refusals and solves: bytes, numbers, and the public calls' answers as words with 01's numbers.
+// Printing for the programs examples, solves and refusals_*: bytes, numbers, and the public calls' answers as words with 01's numbers.
 // Stands on solver, and on io to write.
 use course::Counts;
 use course::Place;
@@ -11,6 +11,8 @@ use solver::Solving;
 use solver::Starting;
 use solver::Stepping;
 use verdict::Refusal;
+
+pub mod call;
 
 // An answer, or the place of a record, as a word and up to three numbers. Unused numbers are 0, so that two can be compared.
 pub struct Told {

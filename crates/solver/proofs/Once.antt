@@ -5,6 +5,7 @@ use mathlib.Core.List.{List}
 use mathlib.Core.Path.{_≡_, refl, ap}
 use Prim.Native.Nat.{ℕ}
 use Rattle.course.specs.declared.Counts.{Counts}
+use Rattle.course.specs.declared.Draws.{Draws}
 use Rattle.course.specs.declared.Progress.{Progress}
 use Rattle.walk.specs.declared.Ending.{Ending}
 use Rattle.walk.specs.declared.Ending.the-variants as E
@@ -23,7 +24,7 @@ use Rattle.solver.specs.declared.Wanting.{Wanting}
 use Rattle.solver.specs.declared.Wanting.the-variants as Want
 use Rattle.verdict.specs.Calls.{Says, refuses, gives, Nothing}
 use Rattle.verdict.proofs.Once.{back, back-paper, Once, only}
-use Rattle.solver.specs.Calls.{startSays, countSays, Full, filled, fillSays, Stride, moved, opening, stopped, done, stepSays, Lent, solveSays, Draws, wantSays}
+use Rattle.solver.specs.Calls.{startSays, countSays, Full, filled, fillSays, Stride, moved, opening, stopped, done, stepSays, Lent, solveSays, wantSays}
 
 startBack : Says Progress → Starting
 startBack (refuses l) = Start.Refused (back l)

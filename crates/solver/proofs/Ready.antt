@@ -2,6 +2,7 @@
 -- Assumes nothing.
 use mathlib.Core.Bool.{true, false}
 use mathlib.Core.List.{List}
+use mathlib.Core.Logic.{_⊎_, ⊎-elim}
 use mathlib.Core.Path.{_≡_, refl, sym, _∙_}
 use Prim.Native.Nat.{ℕ, _+_, _-_, _*_, _≤_}
 use native.Mathlib.Decide.{ℕ-discrete}
@@ -12,21 +13,22 @@ use lib.ListN.{length, take}
 use borrow.Author.Tests.{not-false, eq-eqb, ne-eqb}
 use Rattle.field.specs.Field.{fieldOf}
 use Rattle.sharing.specs.Rules.{blindedValue}
+use Rattle.sharing.specs.Bounds.{mostRows, mostEntries}
 use Rattle.table.specs.Layout.{Place as Cell, tableBytes, entry}
 use Rattle.table.specs.Costs.{scaleNonzero}
 use Rattle.table.specs.Values.{value}
 use Rattle.table.proofs.Values.{pivot-zero, zero-pivot}
 use Rattle.course.specs.declared.Step.{Step}
-use Rattle.course.specs.declared.Step.the-variants.{Scale}
+use Rattle.course.specs.declared.Step.the-variants.{Mix, Check, Scale, Clear, Open}
 use Rattle.course.specs.declared.Place.{Place}
-use Rattle.course.specs.declared.Place.the-variants.{At}
+use Rattle.course.specs.declared.Place.the-variants.{At, Stopped, Done}
 use Rattle.course.specs.declared.Order.{Order}
-use Rattle.course.specs.StepList.{Sizes, inList, maskCost, nonzeroCost, fullMask, fullNonzero}
+use Rattle.course.specs.StepList.{Sizes, inList, costOf, maskCost, nonzeroCost, Pivot, opensOf, fullMask, fullNonzero}
 use Rattle.course.proofs.Within.{within}
 use Rattle.walk.proofs.Acted.{pivot}
 use Rattle.verdict.specs.Told.{passed, _or_}
 use Rattle.verdict.specs.Refusals.{no1, no2, no3, no4, no5, no6, no7, no8, no7step, no8step, no9, numbers, buffers}
-use Rattle.solver.specs.Refusals.{placed, ended, entries, wholeTable, dealDraws, maskAt, nonzeroAt, zeroPivotOf, no10, no11, no12, sizes, dealOrder, gatherOrder, tapes, solveOrder, standing, wantedOrder, placing, lending, stepOrder}
+use Rattle.solver.specs.Refusals.{placed, ended, entries, wholeTable, dealDraws, costAt, maskAt, nonzeroAt, zeroPivot, no10, no11, no12, sizes, dealOrder, gatherOrder, tapes, solveOrder, standing, wantedOrder, placing, lending, stepOrder}
 use Rattle.verdict.proofs.Told.{left, right, not-then}
 use Rattle.verdict.proofs.Passes.{one-says, two-says, three-says, same, enough, nine-says, Buffers, buffered}
 
@@ -47,12 +49,12 @@ whole-entries : (o : Order) → wholeTable o ≡ entries (o .size) * o .shares
 unfolding tableBytes entries
 whole-entries o = refl
 
-pub entries-small : (m : ℕ) → m ≤ 96 → entries m ≤ 9312
+pub entries-small : (m : ℕ) → m ≤ mostRows → entries m ≤ mostEntries
 unfolding entries
-entries-small m h = mul-le-mul {n₁ = m} {m₁ = m + 1} {n₂ = 96} {m₂ = 97} h (omega arith)
+entries-small m h = mul-le-mul {n₁ = m} {m₁ = m + 1} {n₂ = mostRows} {m₂ = mostRows + 1} h (omega arith)
 
-pub sharing-small : (k n : ℕ) → k ≤ 9312 → n ≤ 4 → k * n ≤ 37248
-sharing-small k n h g = mul-le-mul {n₁ = k} {m₁ = n} {n₂ = 9312} {m₂ = 4} h g
+pub sharing-small : (k n : ℕ) → k ≤ mostEntries → n ≤ 4 → k * n ≤ mostEntries * 4
+sharing-small k n h g = mul-le-mul {n₁ = k} {m₁ = n} {n₂ = mostEntries} {m₂ = 4} h g
 
 -- Deal's checks passed
 pub record Dealing (o : Order) (values : List ℕ) (target mask : ℕ) : Type 0 where
@@ -197,6 +199,21 @@ both-zero a b there back = elim (ℕ-discrete a 0) [
   | no n ↦ ne-eqb a 0 n ∙ sym (ne-eqb b 0 (λ e. n (back e)))
 ]
 
+-- a step is none of the four others
+pub not-of-four : {A B C D : Type 0} → (A → ⊥) → (B → ⊥) → (C → ⊥) → (D → ⊥) → A ⊎ (B ⊎ (C ⊎ D)) → ⊥
+not-of-four a b c d s = ⊎-elim a (⊎-elim b (⊎-elim c d)) s
+
+-- a place that is no Scale has no pivot
+pub no-pivot : (o : Order) (place : Place) (t : List ℕ) → ((j : ℕ) → place ≡ At (Scale j) → ⊥) → passed ≡ no12 o place t
+unfolding no12 opensOf zeroPivot
+no-pivot o (At (Mix j k)) t n = refl
+no-pivot o (At (Check j)) t n = refl
+no-pivot o (At (Scale j)) t n = absurd (n j refl)
+no-pivot o (At (Clear j k)) t n = refl
+no-pivot o (At (Open j)) t n = refl
+no-pivot o (Stopped j) t n = refl
+no-pivot o Done t n = refl
+
 -- the pivot's place of a Scale
 pub pivot-cell : (o : Order) (j : ℕ) → inList (o .size) (Scale j) ≡ true → Cell (o .size) (o .size + 1) j j
 pivot-cell o j h = let w = within (o .size) (Scale j) h in pivot (w .0) (w .1)
@@ -204,8 +221,8 @@ pivot-cell o j h = let w = within (o .size) (Scale j) h in pivot (w .0) (w .1)
 -- what an Inversion opens tells whether the pivot of a Scale is 0
 pub pivot-told : (o : Order) (j : ℕ) (t mask nonzero : List ℕ) → inList (o .size) (Scale j) ≡ true → length t ≡ wholeTable o
     → nonzeroCost o (Scale j) ≤ length nonzero → no9 (o .field) nonzero ≡ passed
-    → eqb (blindedValue (fieldOf (o .field)) nonzero mask (entry (o .shares) (o .size + 1) j j t)) 0 ≡ zeroPivotOf o (Scale j) t
-unfolding zeroPivotOf value nonzeroCost scaleNonzero
+    → eqb (blindedValue (fieldOf (o .field)) nonzero mask (entry (o .shares) (o .size + 1) j j t)) 0 ≡ zeroPivot o (Pivot j) t
+unfolding zeroPivot value costOf scaleNonzero
 pivot-told o j t mask nonzero listed whole long nines =
     both-zero _ _
     (zero-pivot (o .field) (o .shares) (o .size) (o .size + 1) t whole (pivot-cell o j listed) nonzero mask (λ k h. nine-says (o .field) nonzero nines k (omega arith)))
@@ -214,7 +231,7 @@ pivot-told o j t mask nonzero listed whole long nines =
 -- ---- what the work of each call asks for
 
 pub deal-ready : {o : Order} {values : List ℕ} {target mask : ℕ} → Dealing o values target mask
-    → ((2 ≤ o .shares) × (o .shares ≤ 4) × (length values ≤ 9312))
+    → ((2 ≤ o .shares) × (o .shares ≤ 4) × (length values ≤ mostEntries))
     × ((target ≡ length values * o .shares) × (length values * (o .shares - 1) ≤ mask))
 unfolding dealDraws
 deal-ready {o} d = (
@@ -223,7 +240,7 @@ deal-ready {o} d = (
 )
 
 pub gather-ready : {o : Order} {t : List ℕ} {target : ℕ} → Gathering o t target
-    → ((2 ≤ o .shares) × (o .shares ≤ 4) × (target ≤ 9312)) × (length t ≡ target * o .shares)
+    → ((2 ≤ o .shares) × (o .shares ≤ 4) × (target ≤ mostEntries)) × (length t ≡ target * o .shares)
 gather-ready {o} d = (
   (d .sizes .two, d .sizes .four, rw (d .lent .room) (entries-small (o .size) (d .sizes .most))),
   rw (d .lent .room) (d .lent .whole ∙ whole-entries o),
@@ -236,7 +253,7 @@ solve-ready d = (d .sizes, ((d .lent .whole, d .lent .room), (d .masks, d .other
 pub step-ready : {o : Order} {place : Place} {t : List ℕ} {solution mask : ℕ} {nonzero : List ℕ} (s : Step) → place ≡ At s
     → Going o place t solution mask nonzero
     → Sizes o × ((inList (o .size) s ≡ true) × (((length t ≡ wholeTable o) × (solution ≡ o .size)) × ((maskCost o s ≤ mask) × (nonzeroCost o s ≤ length nonzero))))
-unfolding maskAt nonzeroAt
+unfolding costAt
 step-ready {o} {place} s e g =
     let m : maskAt o place ≡ maskCost o s = rw e in
     let k : nonzeroAt o place ≡ nonzeroCost o s = rw e in (

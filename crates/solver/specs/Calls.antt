@@ -5,14 +5,13 @@ use Prim.Native.Nat.{ℕ}
 use lib.Dec.{eqb}
 use lib.ListN.{length}
 use Rattle.field.specs.Field.{pick}
-use Rattle.course.specs.declared.Step.{Step}
-use Rattle.course.specs.declared.Step.the-variants.{Mix, Check, Scale, Clear, Open}
 use Rattle.course.specs.declared.Place.{Place}
 use Rattle.course.specs.declared.Place.the-variants as P
 use Rattle.course.specs.declared.Order.{Order}
 use Rattle.course.specs.declared.Progress.{Progress}
 use Rattle.course.specs.declared.Counts.{Counts}
-use Rattle.course.specs.StepList.{stepList, sums}
+use Rattle.course.specs.declared.Draws.{Draws}
+use Rattle.course.specs.StepList.{draws, Opens, None, Flag, Pivot, Unknown, opensOf, stepList, sums}
 use Rattle.course.specs.Next.{nextOf, startOf}
 use Rattle.walk.specs.declared.Ending.{Ending}
 use Rattle.walk.specs.declared.Ending.the-variants as E
@@ -34,7 +33,7 @@ use Rattle.solver.specs.declared.Wanting.{Wanting}
 use Rattle.solver.specs.declared.Wanting.the-variants as Want
 use Rattle.verdict.specs.Refusals.{paper}
 use Rattle.verdict.specs.Calls.{Says, refuses, gives, Outcome, after, call, Nothing}
-use Rattle.solver.specs.Refusals.{sizes, dealOrder, gatherOrder, solveOrder, stepOrder, wantedOrder, entries, maskAt, nonzeroAt}
+use Rattle.solver.specs.Refusals.{sizes, dealOrder, gatherOrder, solveOrder, stepOrder, wantedOrder, entries, costAt}
 
 abbrev pub order : ℕ → ℕ → ℕ → Order
 order field shares size = record { field = field; shares = shares; size = size }
@@ -115,13 +114,12 @@ stepSays (Stepped.Stopped j) = gives (stopped j)
 stepSays (Stepped.Done x) = gives (done x)
 stepSays (Stepped.Refused r) = refuses (paper r)
 
--- what a step that opened x tells
-unfoldable pub tells : Step → ℕ → Stride
-tells (Mix j k) x = moved
-tells (Check j) x = pick (eqb x 1) (stopped j) moved
-tells (Scale j) x = moved
-tells (Clear j k) x = moved
-tells (Open j) x = pick (eqb j 1) (done x) (opening j x)
+-- what a step tells that opened x
+unfoldable pub tells : Opens → ℕ → Stride
+tells None x = moved
+tells (Flag j) x = pick (eqb x 1) (stopped j) moved
+tells (Pivot j) x = moved
+tells (Unknown j) x = pick (eqb j 1) (done x) (opening j x)
 
 -- the record, beside the table and the solution
 pub record Lent : Type 0 where
@@ -138,7 +136,7 @@ orderOf p = order (p .field) (p .shares) (p .size)
 unfoldable pub stepDoes : Progress → Place → Held → List ℕ → List ℕ → Outcome Stride Lent
 stepDoes p (P.At s) h mask nonzero =
     let x = opened (orderOf p) s mask h in
-    after (gives (tells s x)) (lent (nextOf p x) (acted (orderOf p) s mask nonzero h))
+    after (gives (tells (opensOf s) x)) (lent (nextOf p x) (acted (orderOf p) s mask nonzero h))
 stepDoes p (P.Stopped j) h mask nonzero = after (gives moved) (lent p h)
 stepDoes p P.Done h mask nonzero = after (gives moved) (lent p h)
 
@@ -149,13 +147,6 @@ stepCall p h mask nonzero =
 
 -- ---- Wanted: the mask draws and the nonzero draws of the record's place, those that Step asks for by 7 and 8; or refusal 1, 2, 3, 10, 11
 
-pub record Draws : Type 0 where
-  pub mask : ℕ
-  pub nonzero : ℕ
-
-abbrev pub draws : ℕ → ℕ → Draws
-draws mask nonzero = record { mask = mask; nonzero = nonzero }
-
 abbrev pub wantSays : Wanting → Says Draws
 wantSays (Want.Wanted mask nonzero) = gives (draws mask nonzero)
 wantSays (Want.Refused r) = refuses (paper r)
@@ -163,4 +154,4 @@ wantSays (Want.Refused r) = refuses (paper r)
 unfoldable pub wantedCall : Progress → Outcome Draws Nothing
 wantedCall p =
     call (wantedOrder (orderOf p) (p .place)) tt
-    (after (gives (draws (maskAt (orderOf p) (p .place)) (nonzeroAt (orderOf p) (p .place)))) tt)
+    (after (gives (costAt (orderOf p) (p .place))) tt)

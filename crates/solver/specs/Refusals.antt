@@ -8,12 +8,11 @@ use lib.ListN.{length, take}
 use Rattle.field.specs.Field.{fieldOf}
 use Rattle.sharing.specs.Rules.{sum}
 use Rattle.table.specs.Layout.{tableBytes, entry}
-use Rattle.course.specs.declared.Step.{Step}
-use Rattle.course.specs.declared.Step.the-variants.{Mix, Check, Scale, Clear, Open}
+use Rattle.course.specs.declared.Draws.{Draws}
 use Rattle.course.specs.declared.Place.{Place}
 use Rattle.course.specs.declared.Place.the-variants.{At, Stopped, Done}
 use Rattle.course.specs.declared.Order.{Order}
-use Rattle.course.specs.StepList.{inList, maskCost, nonzeroCost, fullMask, fullNonzero}
+use Rattle.course.specs.StepList.{inList, draws, costOf, Opens, None, Flag, Pivot, Unknown, opensOf, fullMask, fullNonzero}
 use Rattle.verdict.specs.Told.{Told, refuse, _or_}
 use Rattle.verdict.specs.Refusals.{outside, no4, no5, no6, no7, no8, no7step, no8step, no9, numbers, buffers}
 
@@ -42,41 +41,36 @@ unfoldable pub dealDraws : Order → ℕ
 dealDraws o = entries (o .size) * (o .shares - 1)
 
 -- the draws of a place; an ended one has none
-unfoldable pub maskAt : Order → Place → ℕ
-maskAt o (At s) = maskCost o s
-maskAt o (Stopped j) = 0
-maskAt o Done = 0
+unfoldable pub costAt : Order → Place → Draws
+costAt o (At s) = costOf o s
+costAt o (Stopped j) = draws 0 0
+costAt o Done = draws 0 0
 
-unfoldable pub nonzeroAt : Order → Place → ℕ
-nonzeroAt o (At s) = nonzeroCost o s
-nonzeroAt o (Stopped j) = 0
-nonzeroAt o Done = 0
+abbrev pub maskAt : Order → Place → ℕ
+maskAt o place = costAt o place .mask
 
--- Scale(j) where the value of T[j,j] is 0
-unfoldable pub zeroPivotOf : Order → Step → List ℕ → Bool
-zeroPivotOf o (Mix j k) t = false
-zeroPivotOf o (Check j) t = false
-zeroPivotOf o (Scale j) t = eqb (sum (fieldOf (o .field)) (entry (o .shares) (o .size + 1) j j t)) 0
-zeroPivotOf o (Clear j k) t = false
-zeroPivotOf o (Open j) t = false
+abbrev pub nonzeroAt : Order → Place → ℕ
+nonzeroAt o place = costAt o place .nonzero
 
-unfoldable pub zeroPivot : Order → Place → List ℕ → Bool
-zeroPivot o (At s) t = zeroPivotOf o s t
-zeroPivot o (Stopped j) t = false
-zeroPivot o Done t = false
+-- what the step of a place opens; an ended one opens nothing
+abbrev pub openingAt : Place → Opens
+openingAt (At s) = opensOf s
+openingAt (Stopped j) = None
+openingAt Done = None
 
--- the j of a step
-unfoldable pub columnOf : Step → ℕ
-columnOf (Mix j k) = j
-columnOf (Check j) = j
-columnOf (Scale j) = j
-columnOf (Clear j k) = j
-columnOf (Open j) = j
+-- Scale(j), which opens its pivot, where the value of T[j,j] is 0
+unfoldable pub zeroPivot : Order → Opens → List ℕ → Bool
+zeroPivot o None t = false
+zeroPivot o (Flag j) t = false
+zeroPivot o (Pivot j) t = eqb (sum (fieldOf (o .field)) (entry (o .shares) (o .size + 1) j j t)) 0
+zeroPivot o (Unknown j) t = false
 
-unfoldable pub columnAt : Place → ℕ
-columnAt (At s) = columnOf s
-columnAt (Stopped j) = j
-columnAt Done = 0
+-- the j of what is opened
+unfoldable pub columnOf : Opens → ℕ
+columnOf None = 0
+columnOf (Flag j) = j
+columnOf (Pivot j) = j
+columnOf (Unknown j) = j
 
 -- ---- the table: number, meaning, detail
 
@@ -90,7 +84,7 @@ no11 place = refuse 11 (ended place) (0 ∷ [])
 
 -- Scale where the pivot's value is 0: j
 unfoldable pub no12 : Order → Place → List ℕ → Told
-no12 o place t = refuse 12 (zeroPivot o place t) (columnAt place ∷ [])
+no12 o place t = refuse 12 (zeroPivot o (openingAt place) t) (columnOf (openingAt place) ∷ [])
 
 -- ---- the orders. Parentheses mark stages: what stands in one is worked out only once the stage before has passed
 

@@ -3,11 +3,13 @@ ghost use mathlib.Core.Path.{_≡_};
 ghost use mathlib.Core.Bool.{true};
 ghost use Prim.Native.Nat.{_≤_};
 ghost use lib.ListN.{length, take};
-ghost use Rattle.course.specs.StepList.{Sizes, inList, maskCost, nonzeroCost};
+ghost use Rattle.sharing.specs.Bounds.{mostRows, mostEntries};
+ghost use Rattle.course.specs.StepList.{Sizes};
 ghost use Rattle.verdict.specs.Told.{passed, _or_};
 ghost use Rattle.verdict.specs.Refusals.{no7, no9, buffers};
-ghost use Rattle.solver.specs.Refusals.{placed, ended, entries, wholeTable, dealDraws, maskAt, nonzeroAt, zeroPivotOf, columnOf, no12, sizes, dealOrder, gatherOrder, tapes, solveOrder, standing, wantedOrder, placing, lending, stepOrder};
+ghost use Rattle.solver.specs.Refusals.{placed, ended, entries, wholeTable, dealDraws, costAt, maskAt, nonzeroAt, no12, sizes, dealOrder, gatherOrder, tapes, solveOrder, standing, wantedOrder, placing, lending, stepOrder};
 ghost use Rattle.verdict.specs.Code.Verdicts.{told};
+use course::Draws;
 use course::Order;
 use course::Place;
 use course::Step;
@@ -22,8 +24,8 @@ pub fn sizes(o: Order) -> Verdict
 }
 
 fn entry_count(m: u64) -> usize
-    requires { ⌜ m ≤ 96 ⌝ }
-    ensures { λ r. ⌜ (r ≡ entries m) × (r ≤ 9312) ⌝ }
+    requires { ⌜ m ≤ mostRows ⌝ }
+    ensures { λ r. ⌜ (r ≡ entries m) × (r ≤ mostEntries) ⌝ }
 {
     let k = m as usize;
     k * (k + 1)
@@ -166,28 +168,22 @@ fn placing(o: Order, p: Place, table: usize, solution: usize) -> Verdict
     verdict::or_else(v, standing(o.size, p))
 }
 
-// The mask draws of a place.
-pub fn mask_at(o: Order, p: Place) -> usize
+// The draws of a place.
+pub fn cost_at(o: Order, p: Place) -> Draws
     requires { ⌜ Sizes o ⌝ }
     requires { ⌜ placed (o .size) p ≡ true ⌝ }
-    ensures { λ r. ⌜ r ≡ maskAt o p ⌝ }
+    ensures { λ r. ⌜ r ≡ costAt o p ⌝ }
 {
     match p {
-        Place::At(s) => course::mask_cost(o, s),
-        Place::Stopped(_) => 0,
-        Place::Done => 0,
-    }
-}
-
-// Its nonzero draws.
-pub fn nonzero_at(o: Order, p: Place) -> usize
-    requires { ⌜ Sizes o ⌝ }
-    ensures { λ r. ⌜ r ≡ nonzeroAt o p ⌝ }
-{
-    match p {
-        Place::At(s) => course::nonzero_cost(o, s),
-        Place::Stopped(_) => 0,
-        Place::Done => 0,
+        Place::At(s) => course::cost(o, s),
+        Place::Stopped(_) => Draws {
+            mask: 0,
+            nonzero: 0,
+        },
+        Place::Done => Draws {
+            mask: 0,
+            nonzero: 0,
+        },
     }
 }
 
@@ -197,8 +193,9 @@ fn lending(o: Order, p: Place, table: &[u8], mask: usize, nonzero: &[u8]) -> Ver
     requires { ⌜ placed (o .size) p ≡ true ⌝ }
     ensures { λ r. ⌜ told r ≡ lending o p (now (table .entry)) mask (now (nonzero .entry)) ⌝ }
 {
-    let draws = mask_at(o, p);
-    let others = nonzero_at(o, p);
+    let cost = cost_at(o, p);
+    let draws = cost.mask;
+    let others = cost.nonzero;
     let v = verdict::no6(o.field, table);
     let v = verdict::or_else(v, verdict::no7step(draws, mask));
     let v = verdict::or_else(v, verdict::no8step(others, nonzero.len()));
@@ -208,51 +205,7 @@ fn lending(o: Order, p: Place, table: &[u8], mask: usize, nonzero: &[u8]) -> Ver
     verdict::no9(o.field, nonzero)
 }
 
-// Whether the pivot of a Scale is 0, by opening it blinded, on copies: the shares are never summed bare.
-fn pivot_is_zero(o: Order, s: Step, table: &[u8], mask: &[u8], nonzero: &[u8]) -> bool
-    requires { ⌜ Sizes o ⌝ }
-    requires { ⌜ inList (o .size) s ≡ true ⌝ }
-    requires { ⌜ length (now table) ≡ wholeTable o ⌝ }
-    requires { ⌜ (maskCost o s ≤ length (now mask)) × (nonzeroCost o s ≤ length (now nonzero)) ⌝ }
-    requires { ⌜ no9 (o .field) (now nonzero) ≡ passed ⌝ }
-    ensures { λ r. ⌜ r ≡ zeroPivotOf o s (now (table .entry)) ⌝ }
-{
-    match s {
-        Step::Mix { j: _, k: _ } => false,
-        Step::Check(_) => false,
-        Step::Scale(j) => {
-            let c = j as usize;
-            let m = o.size as usize;
-            table::opens_zero(
-                o.field,
-                o.shares as usize,
-                m,
-                m + 1,
-                table,
-                c,
-                c,
-                nonzero,
-                mask,
-            )
-        }
-        Step::Clear { j: _, k: _ } => false,
-        Step::Open(_) => false,
-    }
-}
-
-fn column_of(s: Step) -> u64
-    ensures { λ r. ⌜ r ≡ columnOf s ⌝ }
-{
-    match s {
-        Step::Mix { j, k: _ } => j,
-        Step::Check(j) => j,
-        Step::Scale(j) => j,
-        Step::Clear { j, k: _ } => j,
-        Step::Open(j) => j,
-    }
-}
-
-// 12
+// 12: whether the pivot of a Scale is 0, by opening it blinded, on copies: the shares are never summed bare.
 fn no12(o: Order, p: Place, table: &[u8], mask: &[u8], nonzero: &[u8]) -> Verdict
     requires { ⌜ Sizes o ⌝ }
     requires { ⌜ placed (o .size) p ≡ true ⌝ }
@@ -261,14 +214,17 @@ fn no12(o: Order, p: Place, table: &[u8], mask: &[u8], nonzero: &[u8]) -> Verdic
     requires { ⌜ no9 (o .field) (now nonzero) ≡ passed ⌝ }
     ensures { λ r. ⌜ told r ≡ no12 o p (now (table .entry)) ⌝ }
 {
-    match p {
-        Place::At(s) => verdict::refuse_if(
-            pivot_is_zero(o, s, table, mask, nonzero),
-            Refusal::ZeroPivot(column_of(s)),
-        ),
-        Place::Stopped(_) => Verdict::Pass,
-        Place::Done => Verdict::Pass,
-    }
+    let Place::At(s) = p else {
+        return Verdict::Pass;
+    };
+    let Step::Scale(j) = s else {
+        return Verdict::Pass;
+    };
+    let n = o.shares as usize;
+    let m = o.size as usize;
+    let c = j as usize;
+    let zero = table::opens_zero(o.field, n, m, m + 1, table, c, c, nonzero, mask);
+    verdict::refuse_if(zero, Refusal::ZeroPivot(j))
 }
 
 // 1 to 5, 10, 11, 6, 7, 8, 9, 12

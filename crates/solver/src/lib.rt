@@ -4,6 +4,7 @@
 mod checks;
 
 ghost use mathlib.Core.Path.{_≡_};
+ghost use Rattle.course.specs.StepList.{opensOf};
 ghost use Rattle.walk.specs.Act.{held};
 ghost use Rattle.verdict.specs.Calls.{after, gives};
 ghost use Rattle.solver.specs.Calls.{order, startSays, startCall, countSays, countsCall, fillSays, dealCall, gatherCall, solveSays, solveCall, Tells, Taken, stepSays, stepCall, tells, lent, wantSays, wantedCall};
@@ -99,7 +100,10 @@ pub fn wanted(p: Progress) -> Wanting
     let place = p.place;
     match checks::wanted(o, place) {
         Verdict::Refuse(r) => Wanting::Refused(r),
-        Verdict::Pass => Wanting::Wanted(checks::mask_at(o, place), checks::nonzero_at(o, place)),
+        Verdict::Pass => {
+            let d = checks::cost_at(o, place);
+            Wanting::Wanted(d.mask, d.nonzero)
+        }
     }
 }
 
@@ -181,28 +185,23 @@ pub fn solve(
     }
 }
 
-// What a step that opened x tells.
+// What a step tells that opened x.
 fn answer(s: Step, x: u8) -> Stepping
-    ensures { λ r. ⌜ stepSays r ≡ gives (tells s x) ⌝ }
+    ensures { λ r. ⌜ stepSays r ≡ gives (tells (opensOf s) x) ⌝ }
 {
-    match s {
-        Step::Mix { j: _, k: _ } => Stepping::Moved,
-        Step::Check(j) => {
-            if x == 1 {
-                Stepping::Stopped(j)
-            } else {
-                Stepping::Moved
-            }
+    if let Step::Check(j) = s {
+        if x == 1 {
+            return Stepping::Stopped(j);
         }
-        Step::Scale(_) => Stepping::Moved,
-        Step::Clear { j: _, k: _ } => Stepping::Moved,
-        Step::Open(j) => {
-            if j == 1 {
-                Stepping::Done(x)
-            } else {
-                Stepping::Opened(j, x)
-            }
-        }
+        return Stepping::Moved;
+    }
+    let Step::Open(j) = s else {
+        return Stepping::Moved;
+    };
+    if j == 1 {
+        Stepping::Done(x)
+    } else {
+        Stepping::Opened(j, x)
     }
 }
 

@@ -1,4 +1,4 @@
--- How many draws a step takes at most: there are four shares or fewer, and 97 columns or fewer.
+-- How many draws a step takes at most: there are four shares or fewer, and mostWidth columns or fewer.
 -- Assumes nothing.
 use Prim.Native.Nat.{ℕ, _+_, _-_, _*_, _≤_}
 use native.Mathlib.Omega.{arith}
@@ -6,6 +6,7 @@ use native.Mathlib.Nat.{mul-le-mul}
 use Rattle.sharing.specs.Run.{pairs}
 use Rattle.sharing.specs.Rules.{inversionDraws}
 use Rattle.sharing.proofs.Pairs.{pairs-count}
+use Rattle.sharing.specs.Bounds.{mostWidth, mostDraws}
 use Rattle.flag.specs.Flag.{folds, foldDraws, flagDraws}
 use Rattle.flag.proofs.Folding.{folds-few}
 use Rattle.table.specs.Costs.{mixCost, checkCost, scaleCost, clearCost, openCost}
@@ -35,23 +36,23 @@ pub inversion-few : (n : ℕ) → n ≤ 4 → inversionDraws n ≤ 15
 unfolding inversionDraws
 inversion-few n h = let w = few n h in omega arith
 
-pub clear-few : (n l : ℕ) → n ≤ 4 → l ≤ 97 → clearCost n l ≤ 582
+pub clear-few : (n l : ℕ) → n ≤ 4 → l ≤ mostWidth → clearCost n l ≤ mostWidth * 6
 unfolding clearCost
-clear-few n l h k = mul-le-mul {n₁ = l} {m₁ = pairs n} {n₂ = 97} {m₂ = 6} k (few n h .pairs-few)
+clear-few n l h k = mul-le-mul {n₁ = l} {m₁ = pairs n} {n₂ = mostWidth} {m₂ = 6} k (few n h .pairs-few)
 
-pub mix-few : (f n l : ℕ) → n ≤ 4 → l ≤ 97 → mixCost f n l ≤ 1179
+pub mix-few : (f n l : ℕ) → n ≤ 4 → l ≤ mostWidth → mixCost f n l ≤ mostDraws
 unfolding mixCost clearCost
 mix-few f n l h k = omega (arith, flag-few f n h, clear-few n l h k)
 
-pub check-few : (f n : ℕ) → n ≤ 4 → checkCost f n ≤ 1179
+pub check-few : (f n : ℕ) → n ≤ 4 → checkCost f n ≤ mostDraws
 unfolding checkCost
 check-few f n h = omega (arith, flag-few f n h, few n h .pairs-few)
 
-pub scale-few : (n l : ℕ) → n ≤ 4 → l ≤ 97 → scaleCost n l ≤ 1179
+pub scale-few : (n l : ℕ) → n ≤ 4 → l ≤ mostWidth → scaleCost n l ≤ mostDraws
 unfolding scaleCost
 scale-few n l h k =
-    omega (arith, inversion-few n h, mul-le-mul {n₁ = n * (n - 1)} {m₁ = l} {n₂ = 12} {m₂ = 97} (few n h .product) k)
+    omega (arith, inversion-few n h, mul-le-mul {n₁ = n * (n - 1)} {m₁ = l} {n₂ = 12} {m₂ = mostWidth} (few n h .product) k)
 
-pub open-few : (n : ℕ) → n ≤ 4 → openCost n ≤ 1179
+pub open-few : (n : ℕ) → n ≤ 4 → openCost n ≤ mostDraws
 unfolding openCost
 open-few n h = omega (arith, few n h .pairs-few)

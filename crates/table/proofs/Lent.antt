@@ -5,11 +5,12 @@ use Prim.Native.Nat.{ℕ, zero, suc, _+_, _-_, _*_, _≤_}
 use mathlib.Core.List.{List, [], _∷_}
 use native.Mathlib.Omega.{arith}
 use native.Mathlib.Nat.{mul-le-mul}
-use lib.ListN.{length, getD, take, drop}
+use lib.ListN.{length, getD, take, drop, length-drop}
 use Rattle.sharing.specs.Run.{run, tab}
 use Rattle.sharing.specs.Lists.{joined}
-use Rattle.sharing.proofs.Loops.{run-done}
+use Rattle.sharing.proofs.Loops.{run-done, rest}
 use Rattle.sharing.proofs.Each.{each}
+use Rattle.sharing.specs.Bounds.{mostWidth}
 use Rattle.table.specs.Layout.{columnsFrom, Sizes, Place}
 use Rattle.table.proofs.Parts.{part-lent, part-length}
 
@@ -19,9 +20,17 @@ use Rattle.table.proofs.Parts.{part-lent, part-length}
 pub lent-length : (k p : ℕ) (t : List ℕ) → p + k ≤ length t → length (take (p + k - p) (drop p t)) ≡ k
 lent-length k p t h = ap length (part-lent k p t) ∙ part-length k p t h
 
+-- `&ds[d..]` has k draws
+pub rest-room : (d k : ℕ) (ds : List ℕ) → d + k ≤ length ds → k ≤ length (take (length ds - d) (drop d ds))
+rest-room d k ds h = rw (rest d ds, length-drop d ds) (omega arith)
+
+-- how many columns a row has from some place on
+pub some-columns : {n rows w r j : ℕ} → Sizes n rows w → Place rows w r j → (1 ≤ columnsFrom w j) × (columnsFrom w j ≤ mostWidth)
+some-columns S P = (omega arith, omega arith)
+
 -- a row fits the array that it is copied to
-pub row-small : {n rows w r j : ℕ} → Sizes n rows w → Place rows w r j → columnsFrom w j * n ≤ 388
-row-small {n} {w = w} {j = j} S P = mul-le-mul {n₁ = columnsFrom w j} {m₁ = n} {n₂ = 97} {m₂ = 4} (omega arith) (omega arith)
+pub row-small : {n rows w r j : ℕ} → Sizes n rows w → Place rows w r j → columnsFrom w j * n ≤ mostWidth * 4
+row-small {n} {w = w} {j = j} S P = mul-le-mul {n₁ = columnsFrom w j} {m₁ = n} {n₂ = mostWidth} {m₂ = 4} (omega arith) (omega arith)
 
 -- ---- `for i in 0..s.len() { s[i] = op(s[i], v[i]); }`
 

@@ -13,15 +13,16 @@ use Rattle.sharing.specs.Rules.{fourOf, refresh, scaled}
 use Rattle.sharing.proofs.Loops.{run-ext}
 use Rattle.sharing.proofs.Lengths.{refresh-length, scaled-length}
 use Rattle.sharing.proofs.Inverting.{fourOf-at}
+use Rattle.sharing.specs.Bounds.{mostWidth}
 use Rattle.table.specs.Layout.{part}
 use Rattle.table.specs.Steps.{scaleTurn, scaleRow, factorTurn, scaleAll}
-use Rattle.table.specs.Refreshing.{refreshColumn, refreshRow}
+use Rattle.table.specs.Code.Refreshing.{refreshColumn, refreshRow}
 use Rattle.table.proofs.Columns.{Keeps, overColumns-length, overColumns-at}
 use Rattle.table.proofs.Lengths.{scale-keeps}
 
 -- the draws of one factor
-pub turn-few : (n columns : ℕ) → n ≤ 4 → columns ≤ 97 → columns * (n - 1) ≤ 291
-turn-few n columns h k = mul-le-mul {n₁ = columns} {m₁ = n - 1} {n₂ = 97} {m₂ = 3} k (omega arith)
+pub turn-few : (n columns : ℕ) → n ≤ 4 → columns ≤ mostWidth → columns * (n - 1) ≤ mostWidth * 3
+turn-few n columns h k = mul-le-mul {n₁ = columns} {m₁ = n - 1} {n₂ = mostWidth} {m₂ = 3} k (omega arith)
 
 -- only the first n of the four are read
 pub scaleAll-four : (F : Ops) (n columns : ℕ) (fs ds row : List ℕ) → n ≤ 4

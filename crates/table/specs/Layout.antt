@@ -4,6 +4,7 @@
 use Prim.Native.Nat.{ℕ, _+_, _-_, _*_, _≤_}
 use mathlib.Core.List.{List, _++_}
 use lib.ListN.{take, drop}
+use Rattle.sharing.specs.Bounds.{mostRows, mostWidth}
 
 -- rows and columns are numbered from 1; share s of row r, column c is byte ((r-1)(m+1)+(c-1))n+(s-1)
 unfoldable pub cell : ℕ → ℕ → ℕ → ℕ → ℕ
@@ -39,8 +40,8 @@ putRow n w r j row t = put (columnsFrom w j * n) (cell n w r j) row t
 pub record Sizes (n rows w : ℕ) : Type 0 where
   pub shares-low : 2 ≤ n
   pub shares-high : n ≤ 4
-  pub rows-high : rows ≤ 96
-  pub width-high : w ≤ 97
+  pub rows-high : rows ≤ mostRows
+  pub width-high : w ≤ mostWidth
 
 pub record Place (rows w r c : ℕ) : Type 0 where
   pub row-low : 1 ≤ r

@@ -2,4 +2,4 @@ pub mod Layout
 pub mod Steps
 pub mod Costs
 pub mod Values
-pub mod Refreshing
+pub mod Code

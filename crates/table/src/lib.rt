@@ -9,9 +9,10 @@ ghost use Rattle.field.specs.Field.{fieldOf, sub};
 ghost use Rattle.sharing.specs.Run.{pairs};
 ghost use Rattle.sharing.specs.Lists.{joined};
 ghost use Rattle.sharing.specs.Rules.{blindedValue, scaled};
+ghost use Rattle.sharing.specs.Bounds.{mostWidth, mostDraws, rowRoom};
 ghost use Rattle.table.specs.Layout.{Sizes, Place, cell, tableBytes, entry, columnsFrom};
 ghost use Rattle.table.specs.Steps.{signed, joinRow, joinRows, mix, check, scaleRow, scaleAll, scale, clear, opens, liftTurn, lift};
-ghost use Rattle.table.specs.Refreshing.{refreshRow};
+ghost use Rattle.table.specs.Code.Refreshing.{refreshRow};
 ghost use Rattle.table.specs.Costs.{mixCost, checkCost, scaleCost, scaleNonzero, clearCost, openCost};
 use sharing::Factors;
 
@@ -56,8 +57,8 @@ fn join_row(
     factor: &[u8],
     mask: &[u8],
 )
-    requires { ⌜ (2 ≤ n) × (n ≤ 4) × (1 ≤ columns) × (columns ≤ 97) × (length (now factor) ≡ n) ⌝ }
-    requires { ⌜ (length (now row) ≡ columns * n) × (length (now other) ≡ 400) × (columns * pairs n ≤ length (now mask)) ⌝ }
+    requires { ⌜ (2 ≤ n) × (n ≤ 4) × (1 ≤ columns) × (columns ≤ mostWidth) × (length (now factor) ≡ n) ⌝ }
+    requires { ⌜ (length (now row) ≡ columns * n) × (length (now other) ≡ rowRoom) × (columns * pairs n ≤ length (now mask)) ⌝ }
     ensures { λ r. ⌜ now (row .exit) ≡ joinRow (fieldOf f) minus n columns (now (mask .entry)) (now (factor .entry)) (now (other .entry)) (now (row .entry)) ⌝ }
 {
     row::product(f, n, columns, other, factor, mask);
@@ -88,7 +89,7 @@ fn join_rows(
     let len = columns * n;
     let p = cell(n, rows, w, a, j);
     let o = cell(n, rows, w, b, j);
-    let mut other = [0u8; 400];
+    let mut other = [0u8; row::ROW_ROOM];
     sharing::copy_into(&mut other[..len], &table[o..o + len]);
     join_row(
         f,
@@ -151,7 +152,7 @@ pub fn check(
 
 // Each entry refreshed, columns in order.
 fn refresh_columns(f: u64, n: usize, columns: usize, row: &mut [u8], mask: &[u8])
-    requires { ⌜ (2 ≤ n) × (n ≤ 4) × (columns ≤ 97) ⌝ }
+    requires { ⌜ (2 ≤ n) × (n ≤ 4) × (columns ≤ mostWidth) ⌝ }
     requires { ⌜ (length (now row) ≡ columns * n) × (columns * (n - 1) ≤ length (now mask)) ⌝ }
     ensures { λ r. ⌜ now (row .exit) ≡ refreshRow (fieldOf f) n columns (now (mask .entry)) (now (row .entry)) ⌝ }
 {
@@ -167,7 +168,7 @@ fn refresh_columns(f: u64, n: usize, columns: usize, row: &mut [u8], mask: &[u8]
 
 // A number for n in each call, so that the compiler unrolls the loop over shares.
 fn refresh_row(f: u64, n: usize, columns: usize, row: &mut [u8], mask: &[u8])
-    requires { ⌜ (2 ≤ n) × (n ≤ 4) × (columns ≤ 97) ⌝ }
+    requires { ⌜ (2 ≤ n) × (n ≤ 4) × (columns ≤ mostWidth) ⌝ }
     requires { ⌜ (length (now row) ≡ columns * n) × (columns * (n - 1) ≤ length (now mask)) ⌝ }
     ensures { λ r. ⌜ now (row .exit) ≡ refreshRow (fieldOf f) n columns (now (mask .entry)) (now (row .entry)) ⌝ }
 {
@@ -195,7 +196,7 @@ fn times(f: u64, row: &mut [u8], z: u8, opened: bool)
 
 // One factor: the whole row times z, then each entry refreshed, as if column by column.
 fn scale_row(f: u64, n: usize, columns: usize, row: &mut [u8], z: u8, opened: bool, mask: &[u8])
-    requires { ⌜ (2 ≤ n) × (n ≤ 4) × (columns ≤ 97) ⌝ }
+    requires { ⌜ (2 ≤ n) × (n ≤ 4) × (columns ≤ mostWidth) ⌝ }
     requires { ⌜ (length (now row) ≡ columns * n) × (columns * (n - 1) ≤ length (now mask)) ⌝ }
     ensures { λ r. ⌜ now (row .exit) ≡ scaleRow (fieldOf f) n columns z (now (mask .entry)) (now (row .entry)) ⌝ }
 {
@@ -205,7 +206,7 @@ fn scale_row(f: u64, n: usize, columns: usize, row: &mut [u8], z: u8, opened: bo
 
 // Each factor in order; the last one is the inverse of what was opened.
 fn scale_all(f: u64, columns: usize, row: &mut [u8], factors: Factors, mask: &[u8])
-    requires { ⌜ (2 ≤ factors .n) × (factors .n ≤ 4) × (columns ≤ 97) ⌝ }
+    requires { ⌜ (2 ≤ factors .n) × (factors .n ≤ 4) × (columns ≤ mostWidth) ⌝ }
     requires { ⌜ (length (now row) ≡ columns * factors .n) × (factors .n * (columns * (factors .n - 1)) ≤ length (now mask)) ⌝ }
     ensures { λ r. ⌜ now (row .exit) ≡ scaleAll (fieldOf f) (factors .n) columns (factors .f) (now (mask .entry)) (now (row .entry)) ⌝ }
 {
@@ -332,36 +333,36 @@ pub fn lift(f: u64, n: usize, rows: usize, w: usize, table: &mut [u8], r: usize,
 
 // The costs of the steps, in 01's closed form; l is the number of columns from j on.
 pub fn mix_cost(f: u64, n: usize, l: usize) -> usize
-    requires { ⌜ (2 ≤ n) × (n ≤ 4) × (l ≤ 97) ⌝ }
-    ensures { λ r. ⌜ (r ≡ mixCost f n l) × (r ≤ 1179) ⌝ }
+    requires { ⌜ (2 ≤ n) × (n ≤ 4) × (l ≤ mostWidth) ⌝ }
+    ensures { λ r. ⌜ (r ≡ mixCost f n l) × (r ≤ mostDraws) ⌝ }
 {
     flag::flag_draws(f, n) + l * sharing::pair_count(n)
 }
 
 pub fn check_cost(f: u64, n: usize) -> usize
     requires { ⌜ (2 ≤ n) × (n ≤ 4) ⌝ }
-    ensures { λ r. ⌜ (r ≡ checkCost f n) × (r ≤ 1179) ⌝ }
+    ensures { λ r. ⌜ (r ≡ checkCost f n) × (r ≤ mostDraws) ⌝ }
 {
     flag::flag_draws(f, n) + sharing::pair_count(n)
 }
 
 pub fn scale_cost(n: usize, l: usize) -> usize
-    requires { ⌜ (2 ≤ n) × (n ≤ 4) × (l ≤ 97) ⌝ }
-    ensures { λ r. ⌜ (r ≡ scaleCost n l) × (r ≤ 1179) ⌝ }
+    requires { ⌜ (2 ≤ n) × (n ≤ 4) × (l ≤ mostWidth) ⌝ }
+    ensures { λ r. ⌜ (r ≡ scaleCost n l) × (r ≤ mostDraws) ⌝ }
 {
     sharing::inversion_draws(n) + n * (n - 1) * l
 }
 
 pub fn clear_cost(n: usize, l: usize) -> usize
-    requires { ⌜ (2 ≤ n) × (n ≤ 4) × (l ≤ 97) ⌝ }
-    ensures { λ r. ⌜ (r ≡ clearCost n l) × (r ≤ 1179) ⌝ }
+    requires { ⌜ (2 ≤ n) × (n ≤ 4) × (l ≤ mostWidth) ⌝ }
+    ensures { λ r. ⌜ (r ≡ clearCost n l) × (r ≤ mostDraws) ⌝ }
 {
     l * sharing::pair_count(n)
 }
 
 pub fn open_cost(n: usize) -> usize
     requires { ⌜ (2 ≤ n) × (n ≤ 4) ⌝ }
-    ensures { λ r. ⌜ (r ≡ openCost n) × (r ≤ 1179) ⌝ }
+    ensures { λ r. ⌜ (r ≡ openCost n) × (r ≤ mostDraws) ⌝ }
 {
     sharing::pair_count(n)
 }

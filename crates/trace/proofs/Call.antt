@@ -8,27 +8,23 @@ use native.Mathlib.Nat.{add-zero}
 use native.Mathlib.Omega.{arith}
 use lib.ListN.{length}
 use Rattle.course.specs.declared.Step.{Step}
-use Rattle.course.specs.declared.Step.the-variants.{Mix, Check, Scale, Clear, Open}
 use Rattle.course.specs.declared.Place.{Place}
 use Rattle.course.specs.declared.Place.the-variants.{At, Stopped, Done}
 use Rattle.course.specs.declared.Order.{Order}
-use Rattle.walk.specs.Act.{Held, opened, acted}
+use Rattle.course.specs.StepList.{opensOf}
+use Rattle.walk.specs.Act.{Held, opened, written, acted}
 use Rattle.verdict.specs.Told.{Told, passed, refused, Line}
-use Rattle.solver.specs.Refusals.{placed, ended, maskAt, nonzeroAt, stepOrder}
+use Rattle.solver.specs.Refusals.{placed, ended, costAt, stepOrder}
 use Rattle.verdict.specs.Calls.{refuses, call}
 use Rattle.solver.specs.Calls.{stepDoes, stepCall}
-use Rattle.trace.specs.Trace.{Beside, Host, called, lends, hostAfter, orderIn, written, Refused, Accepted}
+use Rattle.trace.specs.Trace.{Beside, Host, called, lends, hostAfter, orderIn, Refused, Accepted}
 use Rattle.verdict.proofs.Passes.{six-says, nine-says}
 use Rattle.solver.proofs.Ready.{Going, going}
 
 -- a step writes the solution as 01 says
-pub acted-written : (o : Order) (s : Step) (ds nz : List ℕ) (h : Held) → acted o s ds nz h .solution ≡ written s (opened o s ds h) (h .solution)
+pub acted-written : (o : Order) (s : Step) (ds nz : List ℕ) (h : Held) → acted o s ds nz h .solution ≡ written (opensOf s) (opened o s ds h) (h .solution)
 unfolding acted
-acted-written o (Mix j k) ds nz h = refl
-acted-written o (Check j) ds nz h = refl
-acted-written o (Scale j) ds nz h = refl
-acted-written o (Clear j k) ds nz h = refl
-acted-written o (Open j) ds nz h = refl
+acted-written o s ds nz h = refl
 
 module _ (h : Host) (c : Beside) where
   -- what the call's checks say
@@ -52,7 +48,7 @@ module _ (h : Host) (c : Beside) where
 
   accepted-at : (p : Place) → h .progress .place ≡ p → Going (orderIn h) p (h .table) (length (c .solution)) (length (c .mask)) (c .nonzero)
       → verdict ≡ passed → (s : Step) × Accepted h c s
-  unfolding called stepCall call stepDoes hostAfter placed ended maskAt nonzeroAt
+  unfolding called stepCall call stepDoes hostAfter placed ended costAt
   accepted-at (At s) e w v = (
     s,
     record {

@@ -14,7 +14,7 @@ use Rattle.table.proofs.Draws.{mix-draws, check-draws, scale-draws, clear-draws
 use Rattle.course.specs.declared.Step.{Step}
 use Rattle.course.specs.declared.Step.the-variants.{Mix, Check, Scale, Clear, Open}
 use Rattle.course.specs.declared.Order.{Order}
-use Rattle.course.specs.StepList.{inList, maskCost, nonzeroCost}
+use Rattle.course.specs.StepList.{inList, costOf, maskCost, nonzeroCost, opensOf}
 use Rattle.course.proofs.Within.{within}
 use Rattle.walk.specs.Act.{held, opened, acted}
 
@@ -25,7 +25,7 @@ in-table a b c d = record { row-low = a; row-high = b; column-low = c; column-hi
 module _ (o : Order) (t : List ℕ) (whole : length t ≡ tableBytes (o .shares) (o .size) (o .size + 1)) {ds es : List ℕ} where
   pub opened-own : (s : Step) → inList (o .size) s ≡ true → SameDraws (fieldOf (o .field)) (maskCost o s) ds es → (x y : List ℕ)
       → opened o s ds (held t x) ≡ opened o s es (held t y)
-  unfolding opened maskCost
+  unfolding opened costOf opensOf
   opened-own (Mix j k) h d x y = refl
   opened-own (Check j) h d x y =
       let w = within (o .size) (Check j) h in
@@ -39,7 +39,7 @@ module _ (o : Order) (t : List ℕ) (whole : length t ≡ tableBytes (o .shares)
   pub table-own : (s : Step) → inList (o .size) s ≡ true → SameDraws (fieldOf (o .field)) (maskCost o s) ds es → {nz mz : List ℕ}
       → SameDraws (fieldOf (o .field)) (nonzeroCost o s) nz mz → (x y : List ℕ)
       → acted o s ds nz (held t x) .table ≡ acted o s es mz (held t y) .table
-  unfolding acted maskCost nonzeroCost
+  unfolding acted costOf
   table-own (Mix j k) h d dz x y =
       let w = within (o .size) (Mix j k) h in
       mix-draws (o .field) (o .shares) (o .size) (o .size + 1) t whole (in-table (w .0) (omega arith) (w .0) (omega arith)) k d

@@ -28,7 +28,7 @@ use Rattle.meaning.specs.Meaning.{IsSolved, IsStopped, Means}
 use Rattle.meaning.proofs.Walked.{NoZero}
 use Rattle.meaning.proofs.Meant.{Lent, meant}
 use Rattle.verdict.specs.Told.{passed}
-use Rattle.solver.specs.Refusals.{wholeTable, solveOrder, maskAt, nonzeroAt}
+use Rattle.solver.specs.Refusals.{wholeTable, solveOrder, costAt, maskAt, nonzeroAt}
 use Rattle.verdict.specs.Calls.{gives}
 use Rattle.solver.specs.Calls.{solveDoes, solveCall}
 use Rattle.verdict.proofs.Passes.{six-says, nine-says}
@@ -164,7 +164,7 @@ module _ (o : Order) (t y ms zs : List ℕ) (passes : solveOrder o t (length y) 
   part-long a c full tape h g = length-take-le c (drop a tape) (rw length-drop (omega arith))
 
   cut-fits : Supplies o fresh (cut o ms zs)
-  unfolding after maskAt nonzeroAt
+  unfolding after costAt
   cut-fits = record { fit = fits }
     where
       fits : (k : ℕ) (s : Step) → after (cut o ms zs) k fresh .progress .place ≡ At s → Fit o s (cut o ms zs (after (cut o ms zs) k fresh))

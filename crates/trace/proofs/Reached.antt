@@ -18,19 +18,19 @@ use Rattle.course.specs.declared.Step.{Step}
 use Rattle.course.specs.declared.Place.the-variants.{Done}
 use Rattle.course.specs.declared.Order.{Order}
 use Rattle.course.specs.declared.Counts.{Counts}
-use Rattle.course.specs.StepList.{Sizes, maskCost, nonzeroCost, stepList, sumOver, sums}
+use Rattle.course.specs.StepList.{Sizes, maskCost, nonzeroCost, opensOf, stepList, sumOver, sums}
 use Rattle.course.specs.Next.{firstOf, after, nextOf, startOf, Chain}
 use Rattle.course.proofs.Within.{within}
 use Rattle.course.proofs.Chain.{unique, chain}
 use Rattle.course.proofs.Sums.{sum-append}
 use Rattle.course.proofs.Along.{resume, calm-resume, first-calm, resume-after, next-place, Along, start-along, turn-along}
-use Rattle.walk.specs.Act.{held}
-use Rattle.walk.specs.Walk.{Tally, running, spent, opens, walk, fresh}
-use Rattle.trace.specs.Trace.{Beside, Host, begin, lends, hostAfter, drive, orderIn, opensAt, written, stepped, NoneZero, Refused, Accepted, countsIn, Begins, Admitted, Own}
+use Rattle.walk.specs.Act.{held, written}
+use Rattle.walk.specs.Walk.{Tally, running, courseOf, spent, walk, fresh}
+use Rattle.trace.specs.Trace.{Beside, Host, begin, lends, hostAfter, drive, orderIn, opensAt, stepped, NoneZero, Refused, Accepted, countsIn, Begins, Admitted, Own}
 use Rattle.trace.proofs.Call.{acted-written, each-call}
 use Rattle.trace.proofs.Own.{opened-own, table-own}
 use Rattle.walk.proofs.Acted.{acted-sized, acted-places, acted-below}
-use Rattle.walk.proofs.Walked.{courseOf, calm-course, settle-after, walk-append}
+use Rattle.walk.proofs.Walked.{calm-course, walk-append}
 use Rattle.trace.proofs.Pivot.{Firm, firm-first, firm-after}
 
 -- a tape that begins with the draws of a and b begins with those of a, and goes on with those of b
@@ -134,14 +134,13 @@ module _ (P : Type 0) (t x : List ℕ) (h : Host) (c : Beside) (s : Step) (sized
         let dm = begins-back own (h .mask) (c .mask) d (a .mask) in
         let dz = begins-back own (h .nonzero) (c .nonzero) e (a .nonzero) in
         rw (next, a .place, opened-own own (h .table) (a .table) s (a .listed) dm (c .solution) v, table-own own (h .table) (a .table) s (a .listed) dm dz (c .solution) v, mask-more, nonzero-more)
-        (settle-after own ms zs (own .size) s (opens own ms zs s (tallyOf h v)) (spent own ms zs s (tallyOf h v)))
 
     -- where it has the host's solution and the call lent that, it has the host's solution after the step
     sole-more : (v : List ℕ) → c .solution ≡ v → spent own ms zs s (tallyOf h v) .left .solution ≡ h′ .solution
     sole-more v e′ =
         let dm = begins-back own (h .mask) (c .mask) d (a .mask) in
         acted-written own s (drop (length (h .mask)) ms) (drop (length (h .nonzero)) zs) (held (h .table) v)
-        ∙ ap₂ (written s) (sym (opened-own own (h .table) (a .table) s (a .listed) dm (c .solution) v)) (sym e′)
+        ∙ ap₂ (written (opensOf s)) (sym (opened-own own (h .table) (a .table) s (a .listed) dm (c .solution) v)) (sym e′)
 
     solve-more : (v : List ℕ)
         × (walk own ms zs (g .steps ++ (s ∷ [])) (running (fresh (held t y))) ≡ courseOf (h′ .progress .place) (tallyOf h′ v))

@@ -15,7 +15,7 @@ use Rattle.course.specs.declared.Order.{Order}
 use Rattle.course.specs.StepList.{Sizes, stepList}
 use Rattle.course.proofs.Along.{Along, first, none, along-in, stop-in, counted-done, counted-stop}
 use Rattle.walk.specs.Act.{held}
-use Rattle.walk.specs.Walk.{Course, running, walk, fresh, conclude, solved}
+use Rattle.walk.specs.Walk.{Course, running, courseOf, walk, fresh, conclude, solved}
 use Rattle.verdict.specs.Told.{passed}
 use Rattle.verdict.specs.Refusals.{outside}
 use Rattle.solver.specs.Refusals.{placed, solveOrder}
@@ -24,7 +24,7 @@ use Rattle.solver.specs.Calls.{solveDoes, solveCall}
 use Rattle.trace.specs.Trace.{Beside, Host, begin, hostAfter, drive, orderIn, Refused, Accepted, countsIn, Counted, Begins, Agrees, Never}
 use Rattle.trace.proofs.Verdict.{tests, never-given}
 use Rattle.trace.proofs.Call.{each-call, refusal}
-use Rattle.walk.proofs.Walked.{courseOf, walk-append, walk-stopped}
+use Rattle.walk.proofs.Walked.{walk-append, walk-stopped}
 use Rattle.trace.proofs.Reached.{tallyOf, Reached, reached, order-kept}
 
 -- a refusal whose test does not hold is not given

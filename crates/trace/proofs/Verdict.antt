@@ -7,11 +7,12 @@ use Prim.Native.Nat.{ℕ}
 use native.Mathlib.Decide.{ℕ-discrete}
 use native.Mathlib.Omega.{arith}
 use lib.ListN.{length, getD}
+use Rattle.sharing.specs.Bounds.{mostRows}
 use Rattle.course.specs.declared.Place.{Place}
 use Rattle.course.specs.declared.Order.{Order}
 use Rattle.verdict.specs.Told.{Told, passed, refused, Line, refuse, _or_}
 use Rattle.verdict.specs.Refusals.{differs, outside, anyPlace, tooLarge, zeroDraw, no1, no2, no3, no4, no5, no6, no7step, no8step, no9, numbers}
-use Rattle.solver.specs.Refusals.{wholeTable, placed, ended, maskAt, nonzeroAt, zeroPivot, no10, no11, no12, sizes, standing, placing, lending, stepOrder}
+use Rattle.solver.specs.Refusals.{wholeTable, placed, ended, maskAt, nonzeroAt, openingAt, zeroPivot, no10, no11, no12, sizes, standing, placing, lending, stepOrder}
 
 -- an order that does not give refusal k
 pub record Without (k : ℕ) (v : Told) : Type 0 where
@@ -37,7 +38,7 @@ module _ (o : Order) (p : Place) (t : List ℕ) (solution mask : ℕ) (nonzero :
       false
       ∷ (differs (o .field) 16 && differs (o .field) 256)
       ∷ outside 2 4 (o .shares)
-      ∷ outside 1 96 (o .size)
+      ∷ outside 1 mostRows (o .size)
       ∷ differs (length t) (wholeTable o)
       ∷ differs solution (o .size)
       ∷ anyPlace (tooLarge (o .field)) t
@@ -46,7 +47,7 @@ module _ (o : Order) (p : Place) (t : List ℕ) (solution mask : ℕ) (nonzero :
       ∷ anyPlace (zeroDraw (o .field)) nonzero
       ∷ not (placed (o .size) p)
       ∷ ended p
-      ∷ zeroPivot o p t
+      ∷ zeroPivot o (openingAt p) t
       ∷ []
 
   -- a refusal whose test does not hold is not given, wherever it stands in the order

@@ -6,19 +6,20 @@ use Prim.Native.Nat.{ℕ}
 use native.Mathlib.Omega.{arith}
 use lib.ListN.{length}
 use borrow.Author.Tests.{eq-eqb}
+use Rattle.course.specs.declared.Draws.{Draws}
 use Rattle.verdict.specs.Told.{Told, passed, refused}
-use Rattle.solver.specs.Refusals.{maskAt, nonzeroAt, wantedOrder}
+use Rattle.solver.specs.Refusals.{costAt, wantedOrder}
 use Rattle.verdict.specs.Calls.{refuses, gives, call}
-use Rattle.solver.specs.Calls.{Draws, draws, wantedCall}
+use Rattle.solver.specs.Calls.{wantedCall}
 use Rattle.trace.specs.Trace.{Beside, Host, orderIn, Never}
 use Rattle.trace.proofs.Trace.{unmet}
 
 module _ (h : Host) (c : Beside) (d : Draws) where
   told : (w : Told) → wantedOrder (orderIn h) (h .progress .place) ≡ w → wantedCall (h .progress) .says ≡ gives d
-      → d ≡ draws (maskAt (orderIn h) (h .progress .place)) (nonzeroAt (orderIn h) (h .progress .place))
+      → d ≡ costAt (orderIn h) (h .progress .place)
   unfolding wantedCall call
   told passed e g =
-      let same : gives (draws (maskAt (orderIn h) (h .progress .place)) (nonzeroAt (orderIn h) (h .progress .place))) ≡ gives d = rw e at g in
+      let same : gives (costAt (orderIn h) (h .progress .place)) ≡ gives d = rw e at g in
       cc
   told (refused l) e g =
       let same : refuses l ≡ gives d = rw e at g in
@@ -26,7 +27,7 @@ module _ (h : Host) (c : Beside) (d : Draws) where
       absurd (let n : ⊥ = omega arith in n)
 
   module _ (says : wantedCall (h .progress) .says ≡ gives d) where
-    wants : d ≡ draws (maskAt (orderIn h) (h .progress .place)) (nonzeroAt (orderIn h) (h .progress .place))
+    wants : d ≡ costAt (orderIn h) (h .progress .place)
     wants = told (wantedOrder (orderIn h) (h .progress .place)) refl says
 
     pub wanted-mask : length (c .mask) ≡ d .mask → Never 7 h c

@@ -6,22 +6,21 @@ use mathlib.Core.Bool.{true}
 use mathlib.Core.List.{List, [], _∷_, _++_}
 use mathlib.Core.Path.{_≡_}
 use Prim.Native.Nat.{ℕ, zero, suc, _+_, _-_, _≤_, _<_}
-use lib.ListN.{length, set}
+use lib.ListN.{length}
 use Rattle.field.specs.Field.{fieldOf}
 use Rattle.sharing.specs.Rules.{drawAt}
 use Rattle.sharing.specs.Lists.{SameDraws, Below}
 use Rattle.course.specs.declared.Step.{Step}
-use Rattle.course.specs.declared.Step.the-variants.{Mix, Check, Scale, Clear, Open}
 use Rattle.course.specs.declared.Place.{Place}
 use Rattle.course.specs.declared.Place.the-variants.{At, Stopped, Done}
 use Rattle.course.specs.declared.Order.{Order}
 use Rattle.course.specs.declared.Progress.{Progress}
 use Rattle.course.specs.declared.Counts.{Counts}
-use Rattle.course.specs.StepList.{inList, maskCost, nonzeroCost, stepList, upTo, sums}
+use Rattle.course.specs.StepList.{inList, maskCost, nonzeroCost, opensOf, stepList, upTo, sums}
 use Rattle.course.specs.Next.{nextOf, startOf}
 use Rattle.walk.specs.declared.Ending.{Ending}
 use Rattle.walk.specs.declared.Ending.the-variants as E
-use Rattle.walk.specs.Act.{Held, held, opened, acted}
+use Rattle.walk.specs.Act.{Held, held, opened, written, acted}
 use Rattle.verdict.specs.Told.{Line}
 use Rattle.solver.specs.Refusals.{wholeTable}
 use Rattle.verdict.specs.Calls.{Says, refuses, gives, Outcome}
@@ -93,21 +92,13 @@ orderIn h = orderOf (h .progress)
 abbrev pub opensAt : Host → Beside → Step → ℕ
 opensAt h c s = opened (orderIn h) s (c .mask) (lends h c)
 
--- 01: "Only Open writes the solution, and only its place j"
-abbrev pub written : Step → ℕ → List ℕ → List ℕ
-written (Mix j k) x v = v
-written (Check j) x v = v
-written (Scale j) x v = v
-written (Clear j k) x v = v
-written (Open j) x v = set v (j - 1) x
-
--- step s done on the lent parts, by the rules of the paper: the table share for share
+-- step s done on the lent parts, by the rules of the paper: the table share for share, and of the solution no more than `written` says
 abbrev pub stepped : Host → Beside → Step → Host
 stepped h c s =
     record {
       progress = nextOf (h .progress) (opensAt h c s);
       table = acted (orderIn h) s (c .mask) (c .nonzero) (lends h c) .table;
-      solution = written s (opensAt h c s) (c .solution);
+      solution = written (opensOf s) (opensAt h c s) (c .solution);
       steps = h .steps + 1;
       mask = h .mask ++ c .mask;
       nonzero = h .nonzero ++ c .nonzero;
@@ -134,7 +125,7 @@ pub record Accepted (h : Host) (c : Beside) (s : Step) : Type 0 where
   pub mask : length (c .mask) ≡ maskCost (orderIn h) s
   pub nonzero : length (c .nonzero) ≡ nonzeroCost (orderIn h) s
   pub drawn : NoneZero (orderIn h) (c .nonzero)
-  pub says : called h c .says ≡ gives (tells s (opensAt h c s))
+  pub says : called h c .says ≡ gives (tells (opensOf s) (opensAt h c s))
   pub after : hostAfter h c ≡ stepped h c s
 
 -- the accepted calls and the draws that they were lent

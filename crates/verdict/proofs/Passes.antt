@@ -15,6 +15,7 @@ use Rattle.field.specs.Field.{fieldOf}
 use Rattle.field.proofs.Fields.{field-of}
 use Rattle.sharing.specs.Rules.{drawAt}
 use Rattle.sharing.specs.Lists.{Below}
+use Rattle.sharing.specs.Bounds.{mostRows}
 use Rattle.verdict.specs.Told.{Told, passed, refuse, _or_}
 use Rattle.verdict.specs.Refusals.{differs, outside, firstPlace, anyPlace, tooLarge, zeroDraw, no1, no2, no3, no4, no5, no6, no9, buffers}
 use Rattle.verdict.proofs.Told.{left, right, not-then}
@@ -59,13 +60,13 @@ pub two-passes : (n : ℕ) → 2 ≤ n → n ≤ 4 → no2 n ≡ passed
 unfolding no2
 two-passes n a b = unmet 2 _ (within 2 4 n a b)
 
-pub three-says : (m : ℕ) → no3 m ≡ passed → (1 ≤ m) × (m ≤ 96)
+pub three-says : (m : ℕ) → no3 m ≡ passed → (1 ≤ m) × (m ≤ mostRows)
 unfolding no3
-three-says m e = inside 1 96 m (not-then _ _ e)
+three-says m e = inside 1 mostRows m (not-then _ _ e)
 
-pub three-passes : (m : ℕ) → 1 ≤ m → m ≤ 96 → no3 m ≡ passed
+pub three-passes : (m : ℕ) → 1 ≤ m → m ≤ mostRows → no3 m ≡ passed
 unfolding no3
-three-passes m a b = unmet 3 _ (within 1 96 m a b)
+three-passes m a b = unmet 3 _ (within 1 mostRows m a b)
 
 -- ---- 4, 5, 7 and 8: a length that must be the one wanted, or may be more
 

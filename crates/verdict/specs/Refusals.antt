@@ -7,6 +7,7 @@ use Prim.Native.Nat.{ℕ, suc}
 use lib.Dec.{eqb, ltb, leb}
 use lib.ListN.{length, getD}
 use Rattle.field.specs.Field.{draw, fieldOf}
+use Rattle.sharing.specs.Bounds.{mostRows}
 use Rattle.verdict.specs.declared.Refusal.{Refusal}
 use Rattle.verdict.specs.declared.Refusal.the-variants as R
 use Rattle.verdict.specs.declared.Report.{Report}
@@ -72,7 +73,7 @@ no2 shares = refuse 2 (outside 2 4 shares) (shares ∷ [])
 
 -- size below 1 or above 96: the number
 unfoldable pub no3 : ℕ → Told
-no3 size = refuse 3 (outside 1 96 size) (size ∷ [])
+no3 size = refuse 3 (outside 1 mostRows size) (size ∷ [])
 
 -- input table or value list of wrong length: length wanted
 unfoldable pub no4 : ℕ → ℕ → Told

@@ -124,7 +124,7 @@ pub fn no2(shares: u64) -> Verdict
 pub fn no3(size: u64) -> Verdict
     ensures { λ r. ⌜ told r ≡ no3 size ⌝ }
 {
-    refuse_if(is_outside(1, 96, size), Refusal::Size(size))
+    refuse_if(is_outside(1, sharing::MOST_ROWS, size), Refusal::Size(size))
 }
 
 // input table or value list of wrong length

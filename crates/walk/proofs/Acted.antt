@@ -15,9 +15,9 @@ use Rattle.table.proofs.Elements.{mix-below, scale-below, clear-below, lift-bel
 use Rattle.course.specs.declared.Step.{Step}
 use Rattle.course.specs.declared.Step.the-variants.{Mix, Check, Scale, Clear, Open}
 use Rattle.course.specs.declared.Order.{Order}
-use Rattle.course.specs.StepList.{Sizes, inList}
+use Rattle.course.specs.StepList.{Sizes, inList, Opens, None, Flag, Pivot, Unknown, opensOf}
 use Rattle.course.proofs.Within.{Within, within}
-use Rattle.walk.specs.Act.{Held, opened, acted}
+use Rattle.walk.specs.Act.{Held, opened, written, acted}
 
 -- m rows of m+1 columns
 pub square : {o : Order} → Sizes o → TableSizes (o .shares) (o .size) (o .size + 1)
@@ -53,13 +53,15 @@ module _ (o : Order) where
   acted-sized (Clear j k) u ds nz h l = clear-length (o .shares) m (m + 1) (h .table) l (o .field) (under (u .0) (u .1) (u .2)) j ds
   acted-sized (Open j) u ds nz h l = lift-length (o .shares) m (m + 1) (h .table) l (o .field) (pivot (u .0) (u .1)) (opened o (Open j) ds h)
 
+  written-length : (w : Opens) (x : ℕ) (v : List ℕ) → length (written w x v) ≡ length v
+  written-length None x v = refl
+  written-length (Flag j) x v = refl
+  written-length (Pivot j) x v = refl
+  written-length (Unknown j) x v = length-set v (j - 1) x
+
   pub acted-places : (s : Step) (ds nz : List ℕ) (h : Held) → length (acted o s ds nz h .solution) ≡ length (h .solution)
   unfolding acted
-  acted-places (Mix j k) ds nz h = refl
-  acted-places (Check j) ds nz h = refl
-  acted-places (Scale j) ds nz h = refl
-  acted-places (Clear j k) ds nz h = refl
-  acted-places (Open j) ds nz h = length-set (h .solution) (j - 1) (opened o (Open j) ds h)
+  acted-places s ds nz h = written-length (opensOf s) (opened o s ds h) (h .solution)
 
   pub acted-length : (s : Step) → inList m s ≡ true → (ds nz : List ℕ) (h : Held) → Lengths o h → Lengths o (acted o s ds nz h)
   acted-length s i ds nz h l =

@@ -12,8 +12,8 @@ use Rattle.course.specs.StepList.{stepList}
 use Rattle.course.specs.Next.{firstOf, after}
 use Rattle.course.proofs.Along.{Along, first-calm, first, none, start-along, start-rest, turn-along, turn-rest, counted-done, counted-stop}
 use Rattle.walk.specs.Act.{Held}
-use Rattle.walk.specs.Walk.{Tally, opens, spent, walk, conclude, fresh, solved, Counters}
-use Rattle.walk.proofs.Walked.{courseOf, calm-course, settle-after, walk-stopped}
+use Rattle.walk.specs.Walk.{Tally, courseOf, opens, spent, walk, conclude, fresh, solved, Counters}
+use Rattle.walk.proofs.Walked.{calm-course, walk-stopped}
 
 module _ (o : Order) (ms zs : List ℕ) where
   -- the steps left at a place are l, and the walk goes over them
@@ -31,7 +31,7 @@ module _ (o : Order) (ms zs : List ℕ) where
       let same : r ≡ s = cc in
       let x : ℕ = opens o ms zs r t in
       let left = turn-rest o g x in
-      rw (← same, settle-after o ms zs (o .size) r x (spent o ms zs r t))
+      rw (← same)
       (goes l (after (o .size) r x) (spent o ms zs r t) (turn-along o g x) (cc))
   goes (s ∷ l) (Stopped j) t g e = rw (walk-stopped o ms zs l j t) (counted-stop o g)
   goes (s ∷ l) Done t g e =

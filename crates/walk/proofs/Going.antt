@@ -8,12 +8,13 @@ use Rattle.course.specs.declared.Step.{Step}
 use Rattle.course.specs.declared.Place.{Place}
 use Rattle.course.specs.declared.Place.the-variants.{At, Stopped, Done}
 use Rattle.course.specs.declared.Order.{Order}
-use Rattle.course.specs.StepList.{maskCost, nonzeroCost, stepList}
+use Rattle.course.specs.declared.Draws.{Draws}
+use Rattle.course.specs.StepList.{costOf, stepList}
 use Rattle.course.specs.Next.{firstOf, after}
 use Rattle.course.proofs.Along.{Along, first-calm, none, start-along, start-rest, turn-along, turn-rest}
 use Rattle.walk.specs.Act.{Held, opened, acted}
-use Rattle.walk.specs.Walk.{Tally, Course, running, stopped, opens, spent, walk, fresh}
-use Rattle.walk.proofs.Walked.{courseOf, calm-course, settle-after, walk-stopped}
+use Rattle.walk.specs.Walk.{Tally, Course, running, stopped, courseOf, opens, spent, walk, fresh}
+use Rattle.walk.proofs.Walked.{calm-course, walk-stopped}
 
 abbrev pub tally : Held → ℕ → ℕ → ℕ → Tally
 tally h k a b = record { left = h; steps = k; mask = a; nonzero = b }
@@ -39,7 +40,7 @@ module _ (o : Order) (ms zs : List ℕ) where
         let x = opens o ms zs s t in
         record {
           along = turn-along o (g .along) x;
-          same = rw (← (settle-after o ms zs (o .size) s x (spent o ms zs s t))) (rw (turn-rest o (g .along) x) at (g .same));
+          same = rw (turn-rest o (g .along) x) at (g .same);
         }
 
     -- the ends
@@ -51,8 +52,8 @@ module _ (o : Order) (ms zs : List ℕ) where
     halted {j} g = sym (walk-stopped o ms zs (g .along .rest) j t) ∙ g .same
 
   -- a step is taken, each part of it by an equation
-  pub moved : {goal : Course} {s : Step} {x k a b c d : ℕ} {p q : Place} {h u : Held}
+  pub moved : {goal : Course} {s : Step} {x k a b : ℕ} {r : Draws} {p q : Place} {h u : Held}
       → Going o ms zs goal p (tally h k a b) → p ≡ At s
       → x ≡ opened o s (drop a ms) h → q ≡ after (o .size) s x → u ≡ acted o s (drop a ms) (drop b zs) h
-      → c ≡ maskCost o s → d ≡ nonzeroCost o s → Going o ms zs goal q (tally u (k + 1) (a + c) (b + d))
-  moved {s = s} g e x q u c d = rw (c, d, u, q, x) (turn {s = s} (rw e at g))
+      → r ≡ costOf o s → Going o ms zs goal q (tally u (k + 1) (a + r .mask) (b + r .nonzero))
+  moved {s = s} g e x q u r = rw (r, u, q, x) (turn {s = s} (rw e at g))

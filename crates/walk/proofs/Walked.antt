@@ -1,8 +1,8 @@
--- A walk over a list of steps and the places of a run: the course that a step leads to is the one of the place after it.
+-- A walk over a list of steps: where a step leaves it, and walks of lists that are joined.
 -- Assumes nothing.
 use mathlib.Core.Bool.{Bool, true, false}
 use mathlib.Core.List.{List, [], _∷_, _++_}
-use mathlib.Core.Path.{_≡_, refl}
+use mathlib.Core.Path.{_≡_, refl, sym}
 use Prim.Native.Nat.{ℕ}
 use lib.Dec.{eqb}
 use Rattle.field.specs.Field.{pick}
@@ -11,32 +11,38 @@ use Rattle.course.specs.declared.Step.the-variants.{Mix, Check, Scale, Clear, O
 use Rattle.course.specs.declared.Place.{Place}
 use Rattle.course.specs.declared.Place.the-variants.{At, Stopped, Done}
 use Rattle.course.specs.declared.Order.{Order}
+use Rattle.course.specs.StepList.{Opens, None, Flag, Pivot, Unknown, opensOf}
 use Rattle.course.specs.Next.{after}
 use Rattle.course.proofs.Along.{Calm, after-calm}
-use Rattle.walk.specs.Walk.{Tally, Course, running, stopped, settle, then, walk}
-
-abbrev pub courseOf : Place → Tally → Course
-courseOf (At s) t = running t
-courseOf (Stopped j) t = stopped j t
-courseOf Done t = running t
+use Rattle.walk.specs.Walk.{Tally, Course, running, stopped, courseOf, opens, spent, then, walk}
 
 pub calm-course : (p : Place) (t : Tally) → Calm p → running t ≡ courseOf p t
 calm-course (At s) t c = refl
 calm-course (Stopped j) t c = absurd c
 calm-course Done t c = refl
 
+-- where a step leaves a walk, from what it opened: Check stops it where it opened 1
+abbrev pub settle : Opens → ℕ → Tally → Course
+settle None x t = running t
+settle (Flag j) x t = pick (eqb x 1) (stopped j t) (running t)
+settle (Pivot j) x t = running t
+settle (Unknown j) x t = running t
+
 course-check : (b : Bool) (j : ℕ) (t : Tally) → pick b (stopped j t) (running t) ≡ courseOf (pick b (Stopped j) (At (Scale j))) t
 course-check true j t = refl
 course-check false j t = refl
 
+settle-after : (m : ℕ) (s : Step) (x : ℕ) (t : Tally) → settle (opensOf s) x t ≡ courseOf (after m s x) t
+unfolding after opensOf
+settle-after m (Mix j k) x t = calm-course (after m (Mix j k) x) t (after-calm m (Mix j k))
+settle-after m (Check j) x t = course-check (eqb x 1) j t
+settle-after m (Scale j) x t = calm-course (after m (Scale j) x) t (after-calm m (Scale j))
+settle-after m (Clear j k) x t = calm-course (after m (Clear j k) x) t (after-calm m (Clear j k))
+settle-after m (Open j) x t = calm-course (after m (Open j) x) t (after-calm m (Open j))
+
 module _ (o : Order) (ms zs : List ℕ) where
-  pub settle-after : (m : ℕ) (s : Step) (x : ℕ) (t : Tally) → settle o ms zs s x t ≡ courseOf (after m s x) t
-  unfolding after
-  settle-after m (Mix j k) x t = calm-course (after m (Mix j k) x) t (after-calm m (Mix j k))
-  settle-after m (Check j) x t = course-check (eqb x 1) j t
-  settle-after m (Scale j) x t = calm-course (after m (Scale j) x) t (after-calm m (Scale j))
-  settle-after m (Clear j k) x t = calm-course (after m (Clear j k) x) t (after-calm m (Clear j k))
-  settle-after m (Open j) x t = calm-course (after m (Open j) x) t (after-calm m (Open j))
+  pub then-settled : (s : Step) (t : Tally) → then o ms zs s (running t) ≡ settle (opensOf s) (opens o ms zs s t) (spent o ms zs s t)
+  then-settled s t = sym (settle-after (o .size) s (opens o ms zs s t) (spent o ms zs s t))
 
   pub walk-append : (a b : List Step) (c : Course) → walk o ms zs (a ++ b) c ≡ walk o ms zs b (walk o ms zs a c)
   unfolding walk

@@ -8,6 +8,7 @@ use Rattle.table.specs.Steps.{mix, check, scale, clear, opens, lift}
 use Rattle.course.specs.declared.Step.{Step}
 use Rattle.course.specs.declared.Step.the-variants.{Mix, Check, Scale, Clear, Open}
 use Rattle.course.specs.declared.Order.{Order}
+use Rattle.course.specs.StepList.{Opens, None, Flag, Pivot, Unknown, opensOf}
 
 -- the lent table and solution
 pub record Held : Type 0 where
@@ -17,20 +18,32 @@ pub record Held : Type 0 where
 abbrev pub held : List ℕ → List ℕ → Held
 held t x = record { table = t; solution = x }
 
--- the number that a step opens: Check's flag, Open's x_j; 0 where it opens none
-unfoldable pub opened : Order → Step → List ℕ → Held → ℕ
-opened o (Mix j k) ds h = 0
-opened o (Check j) ds h = check (o .field) (o .shares) (o .size + 1) j j ds (h .table)
-opened o (Scale j) ds h = 0
-opened o (Clear j k) ds h = 0
-opened o (Open j) ds h = opens (o .field) (o .shares) (o .size + 1) j ds (h .table)
+-- the number that is opened, Check's flag or Open's x_j, from what a step opens; 0 where there is none, as what Scale opens stays in its
+-- inversion
+abbrev pub openedBy : Order → Opens → List ℕ → Held → ℕ
+openedBy o None ds h = 0
+openedBy o (Flag j) ds h = check (o .field) (o .shares) (o .size + 1) j j ds (h .table)
+openedBy o (Pivot j) ds h = 0
+openedBy o (Unknown j) ds h = opens (o .field) (o .shares) (o .size + 1) j ds (h .table)
 
--- what it leaves. Only Open writes the solution, and only its place j; then it carries x_j into the rows above
+unfoldable pub opened : Order → Step → List ℕ → Held → ℕ
+opened o s ds h = openedBy o (opensOf s) ds h
+
+-- 01: "Only Open writes the solution, and only its place j"
+abbrev pub written : Opens → ℕ → List ℕ → List ℕ
+written None x v = v
+written (Flag j) x v = v
+written (Pivot j) x v = v
+written (Unknown j) x v = set v (j - 1) x
+
+-- the table as a step leaves it; Open carries x_j into the rows above
+abbrev pub worked : Order → Step → List ℕ → List ℕ → Held → List ℕ
+worked o (Mix j k) ds nz h = mix (o .field) (o .shares) (o .size + 1) j j k ds (h .table)
+worked o (Check j) ds nz h = h .table
+worked o (Scale j) ds nz h = scale (o .field) (o .shares) (o .size + 1) j j nz ds (h .table)
+worked o (Clear j k) ds nz h = clear (o .field) (o .shares) (o .size + 1) j j k ds (h .table)
+worked o (Open j) ds nz h = lift (o .field) (o .shares) (o .size + 1) j j (opened o (Open j) ds h) (h .table)
+
+-- what a step leaves
 unfoldable pub acted : Order → Step → List ℕ → List ℕ → Held → Held
-acted o (Mix j k) ds nz h = held (mix (o .field) (o .shares) (o .size + 1) j j k ds (h .table)) (h .solution)
-acted o (Check j) ds nz h = h
-acted o (Scale j) ds nz h = held (scale (o .field) (o .shares) (o .size + 1) j j nz ds (h .table)) (h .solution)
-acted o (Clear j k) ds nz h = held (clear (o .field) (o .shares) (o .size + 1) j j k ds (h .table)) (h .solution)
-acted o (Open j) ds nz h =
-    let x = opened o (Open j) ds h in
-    held (lift (o .field) (o .shares) (o .size + 1) j j x (h .table)) (set (h .solution) (j - 1) x)
+acted o s ds nz h = held (worked o s ds nz h) (written (opensOf s) (opened o s ds h) (h .solution))

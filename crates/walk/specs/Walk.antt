@@ -4,14 +4,14 @@
 use mathlib.Core.List.{List, [], _∷_}
 use mathlib.Core.Path.{_≡_}
 use Prim.Native.Nat.{ℕ, _+_}
-use lib.Dec.{eqb}
 use lib.ListN.{length, drop, replicate}
-use Rattle.field.specs.Field.{pick}
 use Rattle.course.specs.declared.Step.{Step}
-use Rattle.course.specs.declared.Step.the-variants.{Mix, Check, Scale, Clear, Open}
+use Rattle.course.specs.declared.Place.{Place}
+use Rattle.course.specs.declared.Place.the-variants as P
 use Rattle.course.specs.declared.Order.{Order}
 use Rattle.course.specs.declared.Counts.{Counts}
 use Rattle.course.specs.StepList.{maskCost, nonzeroCost, stepList, upTo, sums}
+use Rattle.course.specs.Next.{after}
 use Rattle.walk.specs.declared.Ending.{Ending}
 use Rattle.walk.specs.declared.Ending.the-variants.{Solved, Stopped}
 use Rattle.walk.specs.Act.{Held, held, opened, acted}
@@ -27,6 +27,12 @@ pub data Course : Type 0 where
   running : Tally → Course
   stopped : ℕ → Tally → Course
 
+-- a walk has stopped where the next place has
+abbrev pub courseOf : Place → Tally → Course
+courseOf (P.At s) t = running t
+courseOf (P.Stopped j) t = stopped j t
+courseOf P.Done t = running t
+
 module _ (o : Order) (ms zs : List ℕ) where
   abbrev pub opens : Step → Tally → ℕ
   opens s t = opened o s (drop (t .mask) ms) (t .left)
@@ -40,16 +46,9 @@ module _ (o : Order) (ms zs : List ℕ) where
         nonzero = t .nonzero + nonzeroCost o s;
       }
 
-  -- Check stops where it opens 1
-  abbrev pub settle : Step → ℕ → Tally → Course
-  settle (Mix j k) x t = running t
-  settle (Check j) x t = pick (eqb x 1) (stopped j t) (running t)
-  settle (Scale j) x t = running t
-  settle (Clear j k) x t = running t
-  settle (Open j) x t = running t
-
+  -- the walk goes on from the place after the step
   abbrev pub then : Step → Course → Course
-  then s (running t) = settle s (opens s t) (spent s t)
+  then s (running t) = courseOf (after (o .size) s (opens s t)) (spent s t)
   then s (stopped j t) = stopped j t
 
   unfoldable pub walk : List Step → Course → Course

@@ -8,6 +8,7 @@ ghost use lib.ListN.{length, replicate};
 ghost use Rattle.field.specs.Field.{fieldOf};
 ghost use Rattle.sharing.specs.Run.{tab};
 ghost use Rattle.sharing.specs.Rules.{drawAt};
+ghost use Rattle.sharing.specs.Bounds.{mostEntries};
 ghost use Rattle.table.specs.Layout.{tableBytes};
 ghost use Rattle.table.specs.Steps.{columnTurn};
 ghost use Rattle.course.specs.StepList.{Sizes, inList, maskCost, nonzeroCost, fullMask, fullNonzero};
@@ -99,13 +100,12 @@ pub fn solve(o: Order, table: &mut [u8], solution: &mut [u8], mask: &[u8], nonze
         let q = p.place;
         match q {
             Place::At(s) => {
-                let a = course::mask_cost(o, s);
-                let b = course::nonzero_cost(o, s);
+                let d = course::cost(o, s);
                 let x = act(o, s, table, solution, &mask[at..], &nonzero[at2..]);
                 p = p.next(x);
                 steps += 1;
-                at += a;
-                at2 += b;
+                at += d.mask;
+                at2 += d.nonzero;
             }
             Place::Stopped(j) => {
                 wipe(solution);
@@ -170,7 +170,7 @@ fn deal_turn(
 
 // Deals all values, in row order.
 pub fn deal(f: u64, n: usize, table: &mut [u8], values: &[u8], mask: &[u8])
-    requires { ⌜ (2 ≤ n) × (n ≤ 4) × (length (now values) ≤ 9312) ⌝ }
+    requires { ⌜ (2 ≤ n) × (n ≤ 4) × (length (now values) ≤ mostEntries) ⌝ }
     requires { ⌜ (length (now table) ≡ length (now values) * n) × (length (now values) * (n - 1) ≤ length (now mask)) ⌝ }
     ensures { λ r. ⌜ now (table .exit) ≡ dealt f n (length (now (values .entry))) (now (values .entry)) (now (mask .entry)) (now (table .entry)) ⌝ }
 {
@@ -185,7 +185,7 @@ pub fn deal(f: u64, n: usize, table: &mut [u8], values: &[u8], mask: &[u8])
 
 // Gathers all values, in row order.
 pub fn gather(f: u64, n: usize, table: &[u8], values: &mut [u8])
-    requires { ⌜ (2 ≤ n) × (n ≤ 4) × (length (now values) ≤ 9312) ⌝ }
+    requires { ⌜ (2 ≤ n) × (n ≤ 4) × (length (now values) ≤ mostEntries) ⌝ }
     requires { ⌜ length (now table) ≡ length (now values) * n ⌝ }
     ensures { λ r. ⌜ now (values .exit) ≡ gathered f n (length (now (values .entry))) (now (table .entry)) ⌝ }
 {

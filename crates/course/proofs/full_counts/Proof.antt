@@ -3,9 +3,10 @@
 -- Assumes nothing.
 use mathlib.Core.Logic.{⊎-elim}
 use mathlib.Core.Path.{_≡_, refl, ap, _∙_}
-use Prim.Native.Nat.{_<_, _≤_, _-_, _+_}
+use Prim.Native.Nat.{_<_, _≤_, _-_, _+_, _*_}
 use native.Mathlib.Omega.{arith}
 use lib.ListN.{length}
+use Rattle.sharing.specs.Bounds.{mostRows, mostSteps, mostDraws}
 use Rattle.course.specs.declared.Place.{Place}
 use Rattle.course.specs.declared.Place.the-variants.{At, Stopped, Done}
 use Rattle.course.specs.declared.Progress.{Progress}
@@ -29,7 +30,7 @@ at-step : (c : tie.After-q Inv-loop μ-loop) → let l = c .before .before .loop
 at-step c = rw (c .q .given .1) at (c .before .before .loop .inv .2)
 
 room : (c : tie.After-q Inv-loop μ-loop) → let o = c .before .before .before .before .args .o in let l = c .before .before .loop in let s = c .q .given .0 .0 in
-    (l .steps < length (stepList (o .size))) × (l .steps < 9408) × (l .mask + maskCost o s ≤ 11092032) × (l .nonzero + nonzeroCost o s ≤ 288)
+    (l .steps < length (stepList (o .size))) × (l .steps < mostSteps) × (l .mask + maskCost o s ≤ mostSteps * mostDraws) × (l .nonzero + nonzeroCost o s ≤ mostRows * 3)
 room c =
     let o = c .before .before .before .before .args .o in
     let z = c .before .before .before .before .pre in
@@ -37,10 +38,10 @@ room c =
     (r .0, omega (arith, list-small (o .size) (z .most)), omega (arith, mask-small o z), omega (arith, nonzero-small o z))
 
 -- the record is moved on to the place after the step
-moved : (c : tie.After-next Inv-loop μ-loop) → let q = c .before .before .before .before in
+moved : (c : tie.After-next Inv-loop μ-loop) → let q = c .before .before .before in
     c .next .result .place ≡ after (q .before .before .before .before .args .o .size) (q .q .given .0 .0) 0
 moved c =
-    let q = c .before .before .before .before in
+    let q = c .before .before .before in
     ap (λ (p : Progress). p .place) (c .next .ensures)
     ∙ next-place (q .before .before .loop .p) (q .q .given .0 .0) 0 (q .before .before .loop .inv .0) (q .q .given .1) (along-in _ (at-step q))
 
@@ -64,35 +65,33 @@ returns c = by (c .before .loop .p .place) refl
     by (Stopped j) e = absurd (rw e at (c .before .loop .inv .1))
     by Done e = counted-done (c .before .before .before .args .o) (rw e at (c .before .loop .inv .2))
 
-mask-cost-requires : tie.Need-mask-cost-requires Inv-loop μ-loop
-mask-cost-requires c κs = (c .before .before .before .before .before .pre, along-in _ (at-step (c .before)))
-
-nonzero-cost-requires : tie.Need-nonzero-cost-requires Inv-loop μ-loop
-nonzero-cost-requires c κs = c .before .before .before .before .before .before .pre
+cost-requires : tie.Need-cost-requires Inv-loop μ-loop
+cost-requires c κs = (c .before .before .before .before .before .pre, along-in _ (at-step (c .before)))
 
 next-requires : tie.Need-next-requires Inv-loop μ-loop
 next-requires c κs = search needs
 
 add-steps : tie.Need-add-steps Inv-loop μ-loop
-add-steps c = omega (arith, room (c .before .before .before .before) .1)
+add-steps c = omega (arith, room (c .before .before .before) .1)
 
 add-mask : tie.Need-add-mask Inv-loop μ-loop
-add-mask c = omega (arith, room (c .before .before .before .before) .2, c .before .before .mask-cost .ensures .0)
+add-mask c = let n = c .before in rw (n .before .cost .ensures) (omega (arith, room (n .before .before .before) .2))
 
 add-nonzero : tie.Need-add-nonzero Inv-loop μ-loop
-add-nonzero c = omega (arith, room (c .before .before .before .before) .3, c .before .nonzero-cost .ensures .0)
+add-nonzero c = let n = c .before .before in rw (n .before .cost .ensures) (omega (arith, room (n .before .before .before) .3))
 
 loop-less : tie.Need-loop-less Inv-loop μ-loop
-loop-less c = omega (arith, room (c .before .before .before .before) .0)
+loop-less c = omega (arith, room (c .before .before .before .before .before) .0)
 
 loop-again : tie.Need-loop-again Inv-loop μ-loop
 unfolding nextOf
 loop-again c =
-    let q = c .before .before .before .before in
+    let n = c .before .before in
+    let q = n .before .before .before in
     let o = q .before .before .before .before .args .o in (
-      ap (λ (p : Progress). p .size) (c .next .ensures) ∙ q .before .before .loop .inv .0,
-      rw (moved c) (after-calm (o .size) (q .q .given .0 .0)),
-      rw (moved c, c .before .before .mask-cost .ensures .0, c .before .nonzero-cost .ensures .0) (turn-along o (at-step q) 0),
+      ap (λ (p : Progress). p .size) (n .next .ensures) ∙ q .before .before .loop .inv .0,
+      rw (moved n) (after-calm (o .size) (q .q .given .0 .0)),
+      rw (moved n, n .before .cost .ensures) (turn-along o (at-step q) 0),
     )
 
 pub full-counts-spec : {M : Type 1} → statement M
@@ -105,8 +104,7 @@ full-counts-spec =
     loop-holds
     enum-known-q
     returns
-    mask-cost-requires
-    nonzero-cost-requires
+    cost-requires
     next-requires
     add-steps
     add-mask

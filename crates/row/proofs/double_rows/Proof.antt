@@ -7,7 +7,7 @@ use native.Mathlib.Nat.{suc-mul}
 use lib.ListN.{length, set, length-set}
 use Rattle.sharing.specs.Run.{run}
 use Rattle.sharing.proofs.Loops.{run-none, run-next, run-done}
-use Rattle.row.specs.Streams.{doubleTurn, doubledRows}
+use Rattle.row.specs.Code.Streams.{doubleTurn, doubledRows}
 use borrow.Author.Needs.{needs}
 use Rattle.row.proofs.double_rows.Statement.{statement}
 use Rattle.row.proofs.double_rows.Tie as tie

@@ -4,7 +4,7 @@ use mathlib.Core.Path.{_≡_, refl, ap}
 use Prim.Native.Nat.{ℕ, _*_, _/_, _%_}
 use native.Mathlib.Omega.{arith}
 use lib.Bits.{bitXor}
-use Rattle.row.specs.Streams.{doubled}
+use Rattle.row.specs.Code.Streams.{doubled}
 use borrow.Author.Needs.{needs}
 use borrow.Author.Tests.{eq-eqb, ne-eqb}
 use Rattle.row.proofs.doubled.Statement.{statement}

@@ -6,7 +6,7 @@ use native.Mathlib.Omega.{arith}
 use lib.ListN.{length}
 use Rattle.sharing.specs.Run.{run}
 use Rattle.sharing.proofs.Loops.{run-none, run-next, run-done, taken-more, taken-room}
-use Rattle.row.specs.Gather.{gatherBlock, gatherAll}
+use Rattle.row.specs.Code.Gather.{gatherBlock, gatherAll}
 use borrow.Author.Needs.{needs}
 use Rattle.row.proofs.gather.Statement.{statement}
 use Rattle.row.proofs.gather.Tie as tie

@@ -6,7 +6,7 @@ use native.Mathlib.Omega.{arith}
 use lib.ListN.{length, length-set}
 use Rattle.sharing.specs.Run.{run}
 use Rattle.sharing.proofs.Loops.{run-none, run-next, run-done}
-use Rattle.row.specs.Gather.{blockTurn}
+use Rattle.row.specs.Code.Gather.{blockTurn}
 use borrow.Author.Needs.{needs}
 use Rattle.row.proofs.gather_block.Statement.{statement}
 use Rattle.row.proofs.gather_block.Tie as tie

@@ -6,7 +6,7 @@ use native.Mathlib.Omega.{arith}
 use lib.ListN.{length, getD}
 use Rattle.sharing.specs.Run.{run}
 use Rattle.sharing.proofs.Loops.{run-none, run-next, run-done}
-use Rattle.row.specs.Gather.{gatherTurn, gathered}
+use Rattle.row.specs.Code.Gather.{gatherTurn, gathered}
 use Rattle.row.proofs.Places.{place-in, row-room}
 use borrow.Author.Needs.{needs}
 use Rattle.row.proofs.gather_byte.Statement.{statement}

@@ -6,7 +6,7 @@ use native.Mathlib.Omega.{arith}
 use lib.ListN.{length}
 use Rattle.sharing.specs.Run.{run}
 use Rattle.sharing.proofs.Loops.{run-none, run-next, run-done}
-use Rattle.row.specs.Products.{productTurn}
+use Rattle.row.specs.Code.Products.{productTurn}
 use borrow.Author.Needs.{needs}
 use Rattle.row.proofs.product_block.Statement.{statement}
 use Rattle.row.proofs.product_block.Tie as tie

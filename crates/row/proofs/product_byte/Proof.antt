@@ -8,7 +8,8 @@ use lib.ListN.{length, length-set}
 use Rattle.sharing.specs.Run.{run}
 use Rattle.sharing.proofs.Loops.{run-none, run-next, run-done, taken-more, taken-room}
 use Rattle.sharing.specs.Code.Bytes.{xorAt}
-use Rattle.row.specs.Products.{byteTurn, byteProducts}
+use Rattle.sharing.specs.Bounds.{rowRoom, workRoom4}
+use Rattle.row.specs.Code.Products.{byteTurn, byteProducts}
 use borrow.Author.Needs.{needs}
 use Rattle.row.proofs.product_byte.Statement.{statement}
 use Rattle.row.proofs.product_byte.Tie as tie
@@ -26,8 +27,8 @@ room c =
     let x = c .before .before .before .before .args in
     let l = c .before .loop in taken-room (l .d * x .w) (l .d) (x .w) (x .n) refl (omega arith) (omega arith)
 
-small : (c : tie.In-loop Inv-loop μ-loop) → let x = c .before .before .before .before .args in x .n * x .w ≤ 1600
-small c = let x = c .before .before .before .before .args in mul-le-mul {n₁ = x .n} {m₁ = x .w} {n₂ = 4} {m₂ = 400} (omega arith) (omega arith)
+small : (c : tie.In-loop Inv-loop μ-loop) → let x = c .before .before .before .before .args in x .n * x .w ≤ workRoom4
+small c = let x = c .before .before .before .before .args in mul-le-mul {n₁ = x .n} {m₁ = x .w} {n₂ = 4} {m₂ = rowRoom} (omega arith) (omega arith)
 
 loop-holds : tie.Need-loop-holds Inv-loop μ-loop
 loop-holds c = (search needs, omega arith, search needs, run-none _ _)

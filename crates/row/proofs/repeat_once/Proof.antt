@@ -6,7 +6,7 @@ use native.Mathlib.Omega.{arith}
 use lib.ListN.{length, length-set}
 use Rattle.sharing.specs.Run.{run}
 use Rattle.sharing.proofs.Loops.{run-none, run-next, run-done}
-use Rattle.row.specs.Streams.{onceTurn}
+use Rattle.row.specs.Code.Streams.{onceTurn}
 use borrow.Author.Needs.{needs}
 use Rattle.row.proofs.repeat_once.Statement.{statement}
 use Rattle.row.proofs.repeat_once.Tie as tie

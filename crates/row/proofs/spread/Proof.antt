@@ -6,7 +6,7 @@ use native.Mathlib.Omega.{arith}
 use lib.ListN.{length}
 use Rattle.sharing.specs.Run.{run, pairs}
 use Rattle.sharing.proofs.Loops.{run-none, run-next, run-done, taken-more, taken-room}
-use Rattle.row.specs.Spread.{spreadColumn, spreadAll}
+use Rattle.row.specs.Code.Spread.{spreadColumn, spreadAll}
 use borrow.Author.Needs.{needs}
 use Rattle.row.proofs.spread.Statement.{statement}
 use Rattle.row.proofs.spread.Tie as tie

@@ -8,7 +8,7 @@ use lib.ListN.{length}
 use Rattle.sharing.specs.Run.{run, before, pairsOf, overPairs}
 use Rattle.sharing.proofs.Loops.{run-none, run-next, run-done}
 use Rattle.sharing.proofs.Pairs.{pairs-room}
-use Rattle.row.specs.Spread.{spreadTurn}
+use Rattle.row.specs.Code.Spread.{spreadTurn}
 use borrow.Author.Needs.{needs}
 use Rattle.row.proofs.spread_column.Statement.{statement}
 use Rattle.row.proofs.spread_column.Tie as tie

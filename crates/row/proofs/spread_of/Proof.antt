@@ -7,7 +7,7 @@ use lib.ListN.{length, length-set}
 use Rattle.sharing.specs.Run.{run, before, pairTurn}
 use Rattle.sharing.proofs.Loops.{run-none, run-next, run-done}
 use Rattle.sharing.proofs.Pairs.{pairs-room}
-use Rattle.row.specs.Spread.{spreadTurn}
+use Rattle.row.specs.Code.Spread.{spreadTurn}
 use Rattle.row.proofs.Places.{place-in}
 use borrow.Author.Needs.{needs}
 use Rattle.row.proofs.spread_of.Statement.{statement}

@@ -9,7 +9,7 @@ use lib.Bits.{bitXor, bitAnd, and-mask, xor-zero-r}
 use lib.ListN.{getD}
 use Rattle.field.proofs.Xor.{xor-assoc, bit, bit-lt}
 use Rattle.sharing.proofs.Loops.{taken-more, taken-room}
-use Rattle.row.specs.Products.{term}
+use Rattle.row.specs.Code.Products.{term}
 use borrow.Author.Needs.{needs}
 use Rattle.row.proofs.term.Statement.{statement}
 use Rattle.row.proofs.term.Tie as tie

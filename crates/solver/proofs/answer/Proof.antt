@@ -1,67 +1,50 @@
--- `solver::answer` meets its contract, step by step.
+-- `solver::answer` meets its contract: Check and Open tell what they opened, and every other step that it moved.
 -- Assumes nothing.
+use mathlib.Core.Path.{_≡_, refl}
+use native.Mathlib.Omega.{arith}
 use borrow.Author.Tests.{eq-eqb, ne-eqb}
 use borrow.Author.Needs.{needs}
-use Rattle.solver.specs.Calls.{tells}
+use Rattle.course.specs.declared.Step.{Step}
+use Rattle.course.specs.declared.Step.the-variants.{Mix, Check, Scale, Clear, Open}
+use Rattle.course.specs.StepList.{opensOf}
+use Rattle.verdict.specs.Calls.{Says, gives}
+use Rattle.solver.specs.Calls.{Stride, moved, tells}
+use Rattle.solver.proofs.Ready.{not-of-four}
 use Rattle.solver.proofs.answer.Statement.{statement}
 use Rattle.solver.proofs.answer.Tie as tie
-
-enum-told : tie.Need-enum-told
-enum-told c = search needs
 
 enum-known-s : tie.Need-enum-known-s
 enum-known-s c = search needs
 
-enum-told-2 : tie.Need-enum-told-2
-enum-told-2 c = search needs
+returns : tie.Need-returns
+unfolding opensOf tells
+returns c = simp (c .before .before .s .given .1, eq-eqb _ _ (c .if1 .taken))
 
-enum-told-3 : tie.Need-enum-told-3
-enum-told-3 c = search needs
+returns-2 : tie.Need-returns-2
+unfolding opensOf tells
+returns-2 c = simp (c .before .before .s .given .1, ne-eqb _ _ (c .if1 .left))
 
 enum-known-s-2 : tie.Need-enum-known-s-2
 enum-known-s-2 c = search needs
 
-returns : tie.Need-returns
-unfolding tells
-returns c = simp (c .enum-told .given .1)
-
-returns-2 : tie.Need-returns-2
-unfolding tells
-returns-2 c = simp (c .before .before .s .given .1, eq-eqb _ _ (c .if1 .taken))
-
 returns-3 : tie.Need-returns-3
-unfolding tells
-returns-3 c = simp (c .before .before .s .given .1, ne-eqb _ _ (c .if1 .left))
+unfolding opensOf tells
+returns-3 c = by (c .before .before .args .s) refl
+  where
+    by : (s : Step) → c .before .before .args .s ≡ s → gives moved ≡ gives (tells (opensOf (c .before .before .args .s)) (c .before .before .args .x))
+    by (Mix j k) e = rw e
+    by (Check j) e = absurd (not-of-four (λ h. omega arith) (λ h. omega arith) (λ h. omega arith) (λ h. omega arith) (rw e at (c .before .match .keys2)))
+    by (Scale j) e = rw e
+    by (Clear j k) e = rw e
+    by (Open j) e = absurd (not-of-four (λ h. omega arith) (λ h. omega arith) (λ h. omega arith) (λ h. omega arith) (rw e at (c .match2 .keys2)))
 
 returns-4 : tie.Need-returns-4
-unfolding tells
-returns-4 c = simp (c .enum-told2 .given .1)
+unfolding opensOf tells
+returns-4 c = simp (c .before .before .s2 .given .1, eq-eqb _ _ (c .if2 .taken))
 
 returns-5 : tie.Need-returns-5
-unfolding tells
-returns-5 c = simp (c .enum-told3 .given .1)
-
-returns-6 : tie.Need-returns-6
-unfolding tells
-returns-6 c = simp (c .before .before .s2 .given .1, eq-eqb _ _ (c .if2 .taken))
-
-returns-7 : tie.Need-returns-7
-unfolding tells
-returns-7 c = simp (c .before .before .s2 .given .1, ne-eqb _ _ (c .if2 .left))
+unfolding opensOf tells
+returns-5 c = simp (c .before .before .s2 .given .1, ne-eqb _ _ (c .if2 .left))
 
 pub answer-spec : {M : Type 1} → statement M
-answer-spec =
-    tie.close
-    (tie.spec
-    enum-told
-    enum-known-s
-    enum-told-2
-    enum-told-3
-    enum-known-s-2
-    returns
-    returns-2
-    returns-3
-    returns-4
-    returns-5
-    returns-6
-    returns-7)
+answer-spec = tie.close (tie.spec enum-known-s returns returns-2 enum-known-s-2 returns-3 returns-4 returns-5)

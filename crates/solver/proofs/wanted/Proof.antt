@@ -1,10 +1,10 @@
 -- `solver::wanted` meets its contract: a pass gives what the costs of a place ask for.
 -- Assumes nothing.
-use mathlib.Core.Path.{ap₂, _∙_}
-use Prim.Native.Nat.{ℕ}
+use mathlib.Core.Path.{ap, _∙_}
 use borrow.Author.Needs.{needs}
+use Rattle.course.specs.declared.Draws.{Draws}
 use Rattle.verdict.specs.Calls.{after, gives}
-use Rattle.solver.specs.Calls.{draws, wantedCall}
+use Rattle.solver.specs.Calls.{wantedCall}
 use Rattle.verdict.proofs.Calls.{refuses-call, passes-call}
 use Rattle.solver.proofs.Ready.{wanting}
 use Rattle.verdict.proofs.Verdicts.{passes}
@@ -20,13 +20,10 @@ enum-known-r c = search needs
 enum-told : tie.Need-enum-told
 enum-told c = search needs
 
-mask-at-requires : tie.Need-mask-at-requires
-mask-at-requires c κs =
+cost-at-requires : tie.Need-cost-at-requires
+cost-at-requires c κs =
     let w = wanting _ _ (passes _ _ (c .before .before .wanted .ensures) (c .enum-told .given .1)) in
     (w .0, w .1 .listed)
-
-nonzero-at-requires : tie.Need-nonzero-at-requires
-nonzero-at-requires c κs = wanting _ _ (passes _ _ (c .before .before .before .wanted .ensures) (c .before .enum-told .given .1)) .0
 
 returns : tie.Need-returns
 unfolding wantedCall
@@ -35,8 +32,8 @@ returns c = refuses-call _ _ _ _ _ (c .before .before .before .wanted .ensures) 
 returns-2 : tie.Need-returns-2
 unfolding wantedCall
 returns-2 c =
-    ap₂ (λ (m z : ℕ). after (gives (draws m z)) tt) (c .before .mask-at .ensures) (c .nonzero-at .ensures)
-    ∙ passes-call _ _ _ _ (c .before .before .before .before .wanted .ensures) (c .before .before .enum-told .given .1)
+    ap (λ (d : Draws). after (gives d) tt) (c .cost-at .ensures)
+    ∙ passes-call _ _ _ _ (c .before .before .before .wanted .ensures) (c .before .enum-told .given .1)
 
 pub wanted-spec : {M : Type 1} → statement M
 wanted-spec =
@@ -45,7 +42,6 @@ wanted-spec =
     wanted-requires
     enum-known-r
     enum-told
-    mask-at-requires
-    nonzero-at-requires
+    cost-at-requires
     returns
     returns-2)

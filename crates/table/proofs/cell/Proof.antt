@@ -1,17 +1,18 @@
--- `table::cell` meets its contract: 96 rows of 97 entries of four bytes are few enough that no product wraps.
+-- `table::cell` meets its contract: the most rows of the most entries of four bytes are few enough that no product wraps.
 -- Assumes nothing.
 use mathlib.Core.Path.{refl}
 use Prim.Native.Nat.{ℕ, _+_, _-_, _*_, _≤_}
 use native.Mathlib.Omega.{arith}
 use native.Mathlib.Nat.{mul-le-mul}
+use Rattle.sharing.specs.Bounds.{mostRows, mostWidth, mostEntries}
 use Rattle.table.specs.Layout.{cell, Sizes, Place}
 use borrow.Author.Needs.{needs}
 use Rattle.table.proofs.cell.Statement.{statement}
 use Rattle.table.proofs.cell.Tie as tie
 
 module _ (n rows w r c : ℕ) (S : Sizes n rows w) (P : Place rows w r c) where
-  row-small : (r - 1) * w ≤ 9312
-  row-small = mul-le-mul {n₁ = r - 1} {m₁ = w} {n₂ = 96} {m₂ = 97} (omega arith) (omega arith)
+  row-small : (r - 1) * w ≤ mostEntries
+  row-small = mul-le-mul {n₁ = r - 1} {m₁ = w} {n₂ = mostRows} {m₂ = mostWidth} (omega arith) (omega arith)
 
   cell-small : ((r - 1) * w + (c - 1)) * n ≤ 37636
   cell-small = mul-le-mul {n₁ = (r - 1) * w + (c - 1)} {m₁ = n} {n₂ = 9409} {m₂ = 4} (omega (arith, row-small)) (omega arith)

@@ -3,6 +3,7 @@
 use mathlib.Core.Path.{_≡_}
 use Prim.Native.Nat.{_+_, _≤_}
 use native.Mathlib.Omega.{arith}
+use Rattle.sharing.specs.Bounds.{mostDraws}
 use Rattle.table.specs.Costs.{checkCost}
 use Rattle.table.proofs.CostBounds.{check-few}
 use borrow.Author.Needs.{needs}
@@ -13,7 +14,7 @@ check-is : (c : tie.After-pair-count) → c .before .flag-draws .result + c .pai
 unfolding checkCost
 check-is c = simp (c .before .flag-draws .ensures .0, c .pair-count .ensures)
 
-check-within : (c : tie.After-pair-count) → c .before .flag-draws .result + c .pair-count .result ≤ 1179
+check-within : (c : tie.After-pair-count) → c .before .flag-draws .result + c .pair-count .result ≤ mostDraws
 check-within c = rw (check-is c) (check-few (c .before .before .args .f) (c .before .before .args .n) (omega arith))
 
 flag-draws-requires : tie.Need-flag-draws-requires

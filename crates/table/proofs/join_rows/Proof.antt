@@ -1,22 +1,23 @@
 -- `table::join_rows` meets its contract: row b is copied, and what it lends is the rest of row a, and the copy.
 -- Assumes nothing.
-use mathlib.Core.Path.{_≡_, refl, _∙_, sym}
+use mathlib.Core.Path.{_≡_, _∙_, sym}
 use Prim.Native.Nat.{_+_, _*_, _≤_}
 use native.Mathlib.Omega.{arith}
 use mathlib.Core.List.{_++_}
 use lib.ListN.{length, drop, replicate, length-append, length-drop}
 use lib.Seq.{length-take-le}
+use Rattle.sharing.specs.Bounds.{rowRoom}
 use Rattle.table.specs.Layout.{columnsFrom}
 use Rattle.table.specs.Steps.{joinRows}
 use Rattle.table.proofs.Parts.{part-lent, put-lent}
 use Rattle.table.proofs.Cells.{row-in}
-use Rattle.table.proofs.Lent.{lent-length, row-small}
+use Rattle.table.proofs.Lent.{lent-length, row-small, some-columns}
 use Rattle.table.proofs.Rows.{joinRow-front}
 use borrow.Author.Needs.{needs}
 use Rattle.table.proofs.join_rows.Statement.{statement}
 use Rattle.table.proofs.join_rows.Tie as tie
 
-small : (c : tie.After-shared-slice-known2) → let x = c .before .before .before .args in columnsFrom (x .w) (x .j) * x .n ≤ 400
+small : (c : tie.After-shared-slice-known2) → let x = c .before .before .before .args in columnsFrom (x .w) (x .j) * x .n ≤ rowRoom
 small c = omega (arith, row-small (c .before .before .before .pre .0) (c .before .before .before .pre .1 .0 .0))
 
 row-a : (c : tie.After-cell2) → let x = c .before .before .before .before .before .args in c .before .cell .result + columnsFrom (x .w) (x .j) * x .n ≤ length (x .table .now)
@@ -29,7 +30,7 @@ copied : (c : tie.After-copy-into) → let x = c .before .before .before .before
 copied c = c .copy-into .kept .0 ∙ length-take-le _ _ (small (c .before .before .before .before .before .before))
 
 -- the copy and the room behind it
-whole : (c : tie.After-copy-into) → let x = c .before .before .before .before .before .before .before .before .before .args in length (c .copy-into .last .0 ++ drop (columnsFrom (x .w) (x .j) * x .n) (replicate 400 0)) ≡ 400
+whole : (c : tie.After-copy-into) → let x = c .before .before .before .before .before .before .before .before .before .args in length (c .copy-into .last .0 ++ drop (columnsFrom (x .w) (x .j) * x .n) (replicate rowRoom 0)) ≡ rowRoom
 whole c = simp (length-append, length-drop) (omega (arith, copied c, small (c .before .before .before .before .before .before)))
 
 add-columns : tie.Need-add-columns
@@ -87,7 +88,11 @@ join-row-requires : tie.Need-join-row-requires
 join-row-requires c κs =
     let d = c .before .before .before in
     let g = d .before .before .before .before in
-    rw (lent-length _ _ _ (row-a g)) ((search needs, search needs, search needs, search needs, search needs), (refl, whole d, search needs))
+    let s = g .before .before .before .before .before in
+    let m = some-columns (s .pre .0) (s .pre .1 .0 .0) in (
+      (s .pre .0 .shares-low, s .pre .0 .shares-high, m .0, m .1, s .pre .1 .1 .1),
+      (lent-length _ _ _ (row-a g), whole d, s .pre .1 .1 .2),
+    )
 
 same-length : tie.Need-same-length
 same-length c = search needs
@@ -99,7 +104,7 @@ returns c =
     let g = d .before .before .before .before in
     let x = g .before .before .before .before .before .args in
     let l = columnsFrom (x .w) (x .j) * x .n in
-    rw (put-lent l (g .before .cell .result) _ (x .table .now), c .before .before .before .join-row .ensures, joinRow-front (x .f) (x .n) (columnsFrom (x .w) (x .j)) (x .minus) (x .mask .now) (x .factor .now) (d .copy-into .last .0) (drop l (replicate 400 0)) _ (copied d), d .copy-into .ensures, part-lent l (g .cell2 .result) (x .table .now), part-lent l (g .before .cell .result) (x .table .now), g .before .cell .ensures, g .cell2 .ensures)
+    rw (put-lent l (g .before .cell .result) _ (x .table .now), c .before .before .before .join-row .ensures, joinRow-front (x .f) (x .n) (columnsFrom (x .w) (x .j)) (x .minus) (x .mask .now) (x .factor .now) (d .copy-into .last .0) (drop l (replicate rowRoom 0)) _ (copied d), d .copy-into .ensures, part-lent l (g .cell2 .result) (x .table .now), part-lent l (g .before .cell .result) (x .table .now), g .before .cell .ensures, g .cell2 .ensures)
 
 pub join-rows-spec : {M : Type 1} → statement M
 join-rows-spec =

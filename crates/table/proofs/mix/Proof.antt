@@ -1,17 +1,21 @@
 -- `table::mix` meets its contract: the local array holds the flag of T[r,j], the factor, and the join takes the draws behind the flag's.
 -- Assumes nothing.
 use mathlib.Core.Path.{_≡_, _∙_, sym}
-use Prim.Native.Nat.{_+_, _*_, _≤_}
+use Prim.Native.Nat.{ℕ, _+_, _-_, _*_, _≤_}
+use mathlib.Core.Bool.{false}
+use mathlib.Core.List.{List, _++_}
 use native.Mathlib.Omega.{arith}
-use lib.ListN.{length, length-append, length-drop}
+use lib.ListN.{length, take, drop, length-append}
 use lib.Seq.{length-take-le, take-at}
+use Rattle.field.specs.Field.{fieldOf}
 use Rattle.sharing.specs.Run.{pairs}
 use Rattle.sharing.proofs.Loops.{rest}
-use Rattle.table.specs.Layout.{columnsFrom}
-use Rattle.table.specs.Steps.{mix}
+use Rattle.flag.specs.Flag.{zeroFlag, flagDraws}
+use Rattle.table.specs.Layout.{cell, columnsFrom}
+use Rattle.table.specs.Steps.{joinRows, mix}
 use Rattle.table.proofs.Parts.{part-lent}
 use Rattle.table.proofs.Cells.{cell-in}
-use Rattle.table.proofs.Lent.{lent-length}
+use Rattle.table.proofs.Lent.{lent-length, rest-room}
 use Rattle.table.proofs.Draws.{mixCost-is}
 use borrow.Author.Needs.{needs}
 use Rattle.table.proofs.mix.Statement.{statement}
@@ -26,6 +30,13 @@ draws c = let x = c .before .before .before .before .args in omega (arith, c .fl
 
 flagged : (c : tie.After-zero-flag) → length (c .zero-flag .last .1 .0) ≡ c .before .before .before .before .before .before .before .before .args .n
 flagged c = c .zero-flag .kept .1 .0 ∙ length-take-le _ _ (omega arith)
+
+-- what join_rows leaves, over its numbers alone: in the need itself every fact of the code stands by, and a search looks through all
+left : (f n w r j k p d : ℕ) (ds t flag z y : List ℕ) → length flag ≡ n → p ≡ cell n w r j → d ≡ flagDraws f n
+    → flag ≡ zeroFlag f ds (take (p + n - p) (drop p t))
+    → y ≡ joinRows (fieldOf f) false n w r k j (take n (flag ++ z)) (take (length ds - d) (drop d ds)) t → y ≡ mix f n w r j k ds t
+unfolding mix
+left f n w r j k p d ds t flag z y e ep ed ef ey = ey ∙ rw (take-at flag z n e, rest d ds, ef, part-lent n p t, ep, ed)
 
 cell-requires : tie.Need-cell-requires
 cell-requires c κs = search needs
@@ -71,17 +82,22 @@ part-join-rows-end : tie.Need-part-join-rows-end
 part-join-rows-end c = search needs
 
 join-rows-requires : tie.Need-join-rows-requires
-join-rows-requires c κs = let e = flagged (c .before .before .before .before) in rw (take-at _ _ _ e, rest, length-drop) (search needs, (search needs, (search needs, e, omega (arith, draws (c .before .before .before .before .before .before .before .before)))))
+join-rows-requires c κs =
+    let e = flagged (c .before .before .before .before) in
+    let g = c .before .before .before .before .before .before .before .before in
+    let s = g .before .before .before .before in
+    (s .pre .0, (s .pre .1 .0, (s .pre .1 .1 .0, rw (take-at _ _ _ e) e, rest-room _ _ (s .args .mask .now) (draws g))))
 
 same-length : tie.Need-same-length
 same-length c = search needs
 
 returns : tie.Need-returns
-unfolding mix
-returns c = let d = c .before .before .before .before .before .before .before in
+returns c =
+    let d = c .before .before .before .before .before .before .before in
     let g = d .before .before .before .before in
     let x = g .before .before .before .before .args in
-    rw (take-at _ _ _ (flagged d), rest, d .zero-flag .ensures, part-lent (x .n) (g .before .cell .result) (x .table .now), g .before .cell .ensures, g .flag-draws .ensures .0) at (c .before .before .join-rows .ensures)
+    left (x .f) (x .n) (x .w) (x .r) (x .j) (x .k) (g .before .cell .result) (g .flag-draws .result) (x .mask .now) (x .table .now) _ _ _
+    (flagged d) (g .before .cell .ensures) (g .flag-draws .ensures .0) (d .zero-flag .ensures) (c .before .before .join-rows .ensures)
 
 pub mix-spec : {M : Type 1} → statement M
 mix-spec =

@@ -3,6 +3,7 @@
 use mathlib.Core.Path.{_≡_}
 use Prim.Native.Nat.{_+_, _*_, _≤_}
 use native.Mathlib.Omega.{arith}
+use Rattle.sharing.specs.Bounds.{mostDraws}
 use Rattle.table.specs.Costs.{mixCost}
 use Rattle.table.proofs.CostBounds.{mix-few}
 use borrow.Author.Needs.{needs}
@@ -13,7 +14,7 @@ mix-is : (c : tie.After-pair-count) → c .before .flag-draws .result + c .befor
 unfolding mixCost
 mix-is c = simp (c .before .flag-draws .ensures .0, c .pair-count .ensures)
 
-mix-within : (c : tie.After-pair-count) → c .before .flag-draws .result + c .before .before .args .l * c .pair-count .result ≤ 1179
+mix-within : (c : tie.After-pair-count) → c .before .flag-draws .result + c .before .before .args .l * c .pair-count .result ≤ mostDraws
 mix-within c = rw (mix-is c) (mix-few (c .before .before .args .f) (c .before .before .args .n) (c .before .before .args .l) (omega arith) (omega arith))
 
 flag-draws-requires : tie.Need-flag-draws-requires

@@ -8,7 +8,7 @@ use Rattle.field.specs.Field.{fieldOf}
 use Rattle.sharing.specs.Run.{run}
 use Rattle.sharing.proofs.Loops.{run-none, run-next, run-done, rest, taken-more, taken-room}
 use Rattle.table.specs.Steps.{columnTurn, overColumns}
-use Rattle.table.specs.Refreshing.{refreshColumn, refreshRow}
+use Rattle.table.specs.Code.Refreshing.{refreshColumn, refreshRow}
 use Rattle.table.proofs.Parts.{part-lent, put-lent}
 use Rattle.table.proofs.Lent.{lent-length}
 use borrow.Author.Needs.{needs}

@@ -1,17 +1,20 @@
 -- `table::scale` meets its contract: what it lends are the pivot and the row, the factors are those of the pivot's inversion, and d is how many
 -- draws that took. Assumes nothing.
-use mathlib.Core.Path.{_≡_}
-use Prim.Native.Nat.{_+_, _-_, _*_, _≤_}
+use mathlib.Core.Path.{_≡_, ap}
+use Prim.Native.Nat.{ℕ, _+_, _-_, _*_, _≤_}
+use mathlib.Core.List.{List, _++_}
 use native.Mathlib.Omega.{arith}
-use lib.ListN.{length, length-drop}
+use lib.ListN.{length, take, drop}
 use Rattle.field.specs.Field.{fieldOf}
 use Rattle.sharing.specs.Rules.{factors, fourOf, inversionDraws}
 use Rattle.sharing.proofs.Loops.{rest}
-use Rattle.table.specs.Layout.{entry, columnsFrom}
+use Rattle.sharing.specs.Bounds.{mostWidth}
+use Rattle.table.specs.Layout.{cell, tableBytes, entry, columnsFrom, rowFrom, putRow, Sizes, Place}
 use Rattle.table.specs.Costs.{scaleNonzero}
-use Rattle.table.specs.Steps.{scale}
+use Rattle.table.specs.Steps.{scale, scaleAll}
 use Rattle.table.proofs.Parts.{part-lent, put-lent}
-use Rattle.table.proofs.Cells.{cell-in, row-in, entry-length, rowFrom-length}
+use Rattle.table.proofs.Cells.{cell-in, row-in, entry-length}
+use Rattle.table.proofs.Lent.{lent-length, rest-room, some-columns}
 use Rattle.table.proofs.Draws.{scaleCost-is}
 use Rattle.table.proofs.Scaling.{scaleAll-four}
 use borrow.Author.Needs.{needs}
@@ -47,6 +50,30 @@ found : (c : tie.After-inversion)
 found c =
     let s = c .before .before .before .before .before .before .before .before in
     rw (part-lent, c .before .before .before .before .cell .ensures, entry-length _ _ _ _ (s .pre .1 .1 .0) (s .pre .1 .0)) at (c .inversion .ensures)
+
+-- ---- scale_all's call, over its numbers alone: in the needs themselves every fact of the code stands by, and a search looks through all
+
+-- what it asks
+asked : (n rows w r j p d k : ℕ) (ds t : List ℕ) → Sizes n rows w → Place rows w r j → length t ≡ tableBytes n rows w → p ≡ cell n w r j
+    → d ≡ inversionDraws n → k ≡ n → inversionDraws n + n * (columnsFrom w j * (n - 1)) ≤ length ds
+    → ((2 ≤ k) × (k ≤ 4) × (columnsFrom w j ≤ mostWidth))
+    × ((length (take (p + columnsFrom w j * n - p) (drop p t)) ≡ columnsFrom w j * k) × (k * (columnsFrom w j * (k - 1)) ≤ length (take (length ds - d) (drop d ds))))
+asked n rows w r j p d k ds t S P et ep ed ek h =
+    rw (ek, ep, ed) (
+      (S .shares-low, S .shares-high, some-columns S P .1),
+      (lent-length (columnsFrom w j * n) (cell n w r j) t (omega (arith, row-in n P)), rest-room (inversionDraws n) _ ds h),
+    )
+
+-- what it leaves
+left : (f n w r j p d k : ℕ) (nz ds t fs y : List ℕ) → n ≤ 4 → p ≡ cell n w r j → d ≡ inversionDraws n → k ≡ n
+    → fs ≡ fourOf (factors (fieldOf f) nz ds (entry n w r j t))
+    → y ≡ scaleAll (fieldOf f) k (columnsFrom w j) fs (take (length ds - d) (drop d ds)) (take (p + columnsFrom w j * n - p) (drop p t))
+    → take p t ++ (y ++ drop (p + columnsFrom w j * n - p) (drop p t)) ≡ scale f n w r j nz ds t
+unfolding scale
+left f n w r j p d k nz ds t fs y h ep ed ek ef ey =
+    let l : ℕ = columnsFrom w j * n in
+    rw (put-lent l p y t, ey, ek, ef, rest d ds, part-lent l p t, ep, ed)
+    (ap (λ (row : List ℕ). putRow n w r j row t) (scaleAll-four (fieldOf f) n (columnsFrom w j) (factors (fieldOf f) nz ds (entry n w r j t)) (drop (inversionDraws n) ds) (rowFrom n w r j t) h))
 
 add-columns : tie.Need-add-columns
 add-columns c = search needs
@@ -111,20 +138,21 @@ scale-all-requires c κs =
     let i = c .before .before in
     let p = i .before .before .before in
     let s = p .before .before .before .before .before in
-    rw (found i .0, part-lent, p .before .cell .ensures, rowFrom-length _ _ _ _ (s .pre .1 .1 .0) (s .pre .1 .0), rest, length-drop)
-    (omega (arith, p .inversion-draws .ensures .0, room p))
+    let x = s .args in
+    asked (x .n) (x .rows) (x .w) (x .r) (x .j) (p .before .cell .result) _ _ (x .mask .now) (x .table .now)
+    (s .pre .0) (s .pre .1 .0) (s .pre .1 .1 .0) (p .before .cell .ensures) (p .inversion-draws .ensures .0) (found i .0) (room p)
 
 same-length : tie.Need-same-length
 same-length c = search needs
 
 returns : tie.Need-returns
-unfolding scale
 returns c =
     let i = c .before .before .before .before .before in
     let p = i .before .before .before in
     let s = p .before .before .before .before .before in
-    let h : s .args .n ≤ 4 = omega arith in
-    rw (put-lent, c .before .before .scale-all .ensures, found i .0, found i .1, rest, part-lent, p .before .cell .ensures, p .inversion-draws .ensures .0, scaleAll-four _ _ _ _ _ _ h)
+    let x = s .args in
+    left (x .f) (x .n) (x .w) (x .r) (x .j) (p .before .cell .result) _ _ (x .nonzero .now) (x .mask .now) (x .table .now) _ _
+    (s .pre .0 .shares-high) (p .before .cell .ensures) (p .inversion-draws .ensures .0) (found i .0) (found i .1) (c .before .before .scale-all .ensures)
 
 pub scale-spec : {M : Type 1} → statement M
 scale-spec =

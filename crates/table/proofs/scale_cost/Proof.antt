@@ -3,6 +3,7 @@
 use mathlib.Core.Path.{_≡_}
 use Prim.Native.Nat.{_+_, _-_, _*_, _≤_}
 use native.Mathlib.Omega.{arith}
+use Rattle.sharing.specs.Bounds.{mostDraws}
 use Rattle.table.specs.Costs.{scaleCost}
 use Rattle.table.proofs.CostBounds.{few, scale-few}
 use borrow.Author.Needs.{needs}
@@ -13,7 +14,7 @@ scale-is : (c : tie.After-inversion-draws) → let n = c .before .args .n in c .
 unfolding scaleCost
 scale-is c = simp (c .inversion-draws .ensures .0)
 
-scale-within : (c : tie.After-inversion-draws) → let n = c .before .args .n in c .inversion-draws .result + n * (n - 1) * c .before .args .l ≤ 1179
+scale-within : (c : tie.After-inversion-draws) → let n = c .before .args .n in c .inversion-draws .result + n * (n - 1) * c .before .args .l ≤ mostDraws
 scale-within c = rw (scale-is c) (scale-few (c .before .args .n) (c .before .args .l) (omega arith) (omega arith))
 
 inversion-draws-requires : tie.Need-inversion-draws-requires

@@ -65,33 +65,30 @@ loop-holds c =
 enum-known-q : tie.Need-enum-known-q Inv-loop μ-loop
 enum-known-q c = search needs
 
-mask-cost-requires : tie.Need-mask-cost-requires Inv-loop μ-loop
-mask-cost-requires c κs = (c .before .before .before .before .before .before .before .before .before .pre .0, along-in _ (at-step (c .before) .along))
-
-nonzero-cost-requires : tie.Need-nonzero-cost-requires Inv-loop μ-loop
-nonzero-cost-requires c κs = c .before .before .before .before .before .before .before .before .before .before .pre .0
+cost-requires : tie.Need-cost-requires Inv-loop μ-loop
+cost-requires c κs = (c .before .before .before .before .before .before .before .before .before .pre .0, along-in _ (at-step (c .before) .along))
 
 sub-act : tie.Need-sub-act Inv-loop μ-loop
-sub-act c = let q = c .before .before .before .before .before in omega (arith, room q .1, q .before .before .before .before .before .before .before .before .pre .1 .1 .0)
+sub-act c = let q = c .before .before .before .before in omega (arith, room q .1, q .before .before .before .before .before .before .before .before .pre .1 .1 .0)
 
 part-act-start : tie.Need-part-act-start Inv-loop μ-loop
-part-act-start c = let q = c .before .before .before .before .before in omega (arith, room q .1, q .before .before .before .before .before .before .before .before .pre .1 .1 .0)
+part-act-start c = let q = c .before .before .before .before in omega (arith, room q .1, q .before .before .before .before .before .before .before .before .pre .1 .1 .0)
 
 part-act-end : tie.Need-part-act-end Inv-loop μ-loop
 part-act-end c = search needs
 
 sub-act-2 : tie.Need-sub-act-2 Inv-loop μ-loop
-sub-act-2 c = let q = c .before .before .before .before .before .before in omega (arith, room q .2, q .before .before .before .before .before .before .before .before .pre .1 .1 .1)
+sub-act-2 c = let q = c .before .before .before .before .before in omega (arith, room q .2, q .before .before .before .before .before .before .before .before .pre .1 .1 .1)
 
 part-act-start-2 : tie.Need-part-act-start-2 Inv-loop μ-loop
-part-act-start-2 c = let q = c .before .before .before .before .before .before in omega (arith, room q .2, q .before .before .before .before .before .before .before .before .pre .1 .1 .1)
+part-act-start-2 c = let q = c .before .before .before .before .before in omega (arith, room q .2, q .before .before .before .before .before .before .before .before .pre .1 .1 .1)
 
 part-act-end-2 : tie.Need-part-act-end-2 Inv-loop μ-loop
 part-act-end-2 c = search needs
 
 act-requires : tie.Need-act-requires Inv-loop μ-loop
 act-requires c κs =
-    let q = c .before .before .before .before .before .before .before in
+    let q = c .before .before .before .before .before .before in
     let p = q .before .before .before .before .before .before .before .before .pre in
     let v = q .before .before .loop .inv in
     (p .0, (along-in _ (at-step q .along), ((v .lengths .table, v .lengths .solution), (rw (rest, length-drop) (omega (arith, room q .1, p .1 .1 .0)), rw (rest, length-drop) (omega (arith, room q .2, p .1 .1 .1))))))
@@ -101,42 +98,46 @@ next-requires c κs = search needs
 
 add-steps : tie.Need-add-steps Inv-loop μ-loop
 add-steps c =
-    let q = c .before .before .before .before .before .before .before .before .before .before .before .before .before in
+    let q = c .before .before .before .before .before .before .before .before .before .before .before .before in
     let s = q .before .before .before .before .before .before .before .before in
     omega (arith, room q .0, list-small (s .args .o .size) (s .pre .0 .most))
 
 add-at : tie.Need-add-at Inv-loop μ-loop
 add-at c =
-    let q = c .before .before .before .before .before .before .before .before .before .before .before .before .before in
+    let t = c .before .before .before .before .before .before .before .before .before .before .before in
+    let q = t .before .before in
     let s = q .before .before .before .before .before .before .before .before in
-    omega (arith, room q .1, mask-small (s .args .o) (s .pre .0), c .before .before .before .before .before .before .before .before .before .before .before .mask-cost .ensures .0)
+    rw (t .cost .ensures) (omega (arith, room q .1, mask-small (s .args .o) (s .pre .0)))
 
 add-at2 : tie.Need-add-at2 Inv-loop μ-loop
 add-at2 c =
-    let q = c .before .before .before .before .before .before .before .before .before .before .before .before .before in
+    let t = c .before .before .before .before .before .before .before .before .before .before .before .before in
+    let q = t .before .before in
     let s = q .before .before .before .before .before .before .before .before in
-    omega (arith, room q .2, nonzero-small (s .args .o) (s .pre .0), c .before .before .before .before .before .before .before .before .before .before .nonzero-cost .ensures .0)
+    rw (t .cost .ensures) (omega (arith, room q .2, nonzero-small (s .args .o) (s .pre .0)))
 
 loop-less : tie.Need-loop-less Inv-loop μ-loop
-loop-less c = omega (arith, room (c .before .before .before .before .before .before .before .before .before .before .before .before .before) .0)
+loop-less c = omega (arith, room (c .before .before .before .before .before .before .before .before .before .before .before .before .before .before) .0)
 
 loop-again : tie.Need-loop-again Inv-loop μ-loop
 unfolding nextOf
 loop-again c =
-    let q = c .before .before .before .before .before .before .before .before .before .before .before .before .before in
+    let n = c .before .before in
+    let t = n .before .before .before .before .before .before .before .before .before .before in
+    let q = t .before .before in
     let a = q .before .before .before .before .before .before .before .before .args in
     let l = q .before .before .loop in
     let s = q .q .given .0 .0 in
-    let x = c .before .before .before .before .before .act in
+    let x = n .before .before .before .before .before .act in
     let g = at-step q in
     let left = rw (rest (l .at) (a .mask .now), rest (l .at2) (a .nonzero .now)) at (x .ensures .1) in
     record {
-      size = ap (λ (r : Progress). r .size) (c .next .ensures) ∙ l .inv .size;
+      size = ap (λ (r : Progress). r .size) (n .next .ensures) ∙ l .inv .size;
       lengths = rw left (acted-length (a .o) s (along-in _ (g .along)) _ _ _ (l .inv .lengths));
       going =
           moved (a .o) (a .mask .now) (a .nonzero .now) (l .inv .going) (q .q .given .1) (rw rest at (x .ensures .0))
-          (ap (λ (r : Progress). r .place) (c .next .ensures) ∙ next-place (l .p) s (x .result) (l .inv .size) (q .q .given .1) (along-in _ (g .along)))
-          left (c .before .before .before .before .before .before .before .before .before .before .before .mask-cost .ensures .0) (c .before .before .before .before .before .before .before .before .before .before .nonzero-cost .ensures .0);
+          (ap (λ (r : Progress). r .place) (n .next .ensures) ∙ next-place (l .p) s (x .result) (l .inv .size) (q .q .given .1) (along-in _ (g .along)))
+          left (t .cost .ensures);
     }
 
 enum-known-q-2 : tie.Need-enum-known-q-2 Inv-loop μ-loop
@@ -182,8 +183,7 @@ solve-spec =
     start-requires
     loop-holds
     enum-known-q
-    mask-cost-requires
-    nonzero-cost-requires
+    cost-requires
     sub-act
     part-act-start
     part-act-end

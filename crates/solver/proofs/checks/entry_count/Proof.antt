@@ -1,4 +1,4 @@
--- `checks::entry_count` meets its contract: m(m+1) is at most 96 times 97.
+-- `checks::entry_count` meets its contract: m(m+1) is not large.
 -- Assumes nothing.
 use mathlib.Core.Path.{refl}
 use native.Mathlib.Omega.{arith}

@@ -1,18 +1,16 @@
 -- `checks::lending` meets its contract: a refusal of 6 or of a length stands, and after a pass the order is the rest of it.
 -- Assumes nothing.
-use mathlib.Core.Path.{_∙_}
+use mathlib.Core.Path.{ap, _∙_}
 use borrow.Author.Needs.{needs}
+use Rattle.course.specs.declared.Draws.{Draws}
 use Rattle.verdict.specs.Refusals.{no7step, no8step}
 use Rattle.solver.specs.Refusals.{lending}
 use Rattle.verdict.proofs.Verdicts.{stops-at, goes-on, ors}
 use Rattle.solver.proofs.checks.lending.Statement.{statement}
 use Rattle.solver.proofs.checks.lending.Tie as tie
 
-mask-at-requires : tie.Need-mask-at-requires
-mask-at-requires c κs = search needs
-
-nonzero-at-requires : tie.Need-nonzero-at-requires
-nonzero-at-requires c κs = search needs
+cost-at-requires : tie.Need-cost-at-requires
+cost-at-requires c κs = search needs
 
 no6-requires : tie.Need-no6-requires
 no6-requires c κs = search needs
@@ -40,7 +38,8 @@ unfolding lending
 returns c =
     let l = c .before .before in
     let s = l .before .before .before .before in
-    rw (← (s .before .before .mask-at .ensures), ← (s .before .nonzero-at .ensures))
+    let e = s .before .cost-at .ensures in
+    rw (← (ap (λ (d : Draws). d .mask) e), ← (ap (λ (d : Draws). d .nonzero) e))
     (stops-at _ _ _ _
     (ors (l .or-else2 .ensures) (ors (l .before .before .or-else .ensures) (s .no6 .ensures) (l .before .before .before .no7step .ensures)) (l .before .no8step .ensures))
     (c .enum-told2 .given .1))
@@ -53,7 +52,8 @@ unfolding lending
 returns-2 c =
     let l = c .before .before .before in
     let s = l .before .before .before .before in
-    rw (← (s .before .before .mask-at .ensures), ← (s .before .nonzero-at .ensures))
+    let e = s .before .cost-at .ensures in
+    rw (← (ap (λ (d : Draws). d .mask) e), ← (ap (λ (d : Draws). d .nonzero) e))
     (c .no9 .ensures
     ∙ goes-on _ _ _
     (ors (l .or-else2 .ensures) (ors (l .before .before .or-else .ensures) (s .no6 .ensures) (l .before .before .before .no7step .ensures)) (l .before .no8step .ensures))
@@ -63,8 +63,7 @@ pub lending-spec : {M : Type 1} → statement M
 lending-spec =
     tie.close
     (tie.spec
-    mask-at-requires
-    nonzero-at-requires
+    cost-at-requires
     no6-requires
     no7step-requires
     or-else-requires

@@ -1,55 +1,74 @@
--- `checks::no12` meets its contract: at a step the pivot is opened on copies, and an ended place has none.
+-- `checks::no12` meets its contract: what is opened at a Scale is the pivot's value times nonzero draws, and is 0 where the value is; no other
+-- place has a pivot.
 -- Assumes nothing.
+use mathlib.Core.Logic.{⊎-elim}
+use mathlib.Core.Path.{_≡_, ap, _∙_}
+use native.Mathlib.Omega.{arith}
 use borrow.Author.Needs.{needs}
-use Rattle.solver.specs.Refusals.{no12, zeroPivot, columnAt, maskAt, nonzeroAt}
-use Rattle.solver.proofs.Ready.{at-step}
+use Rattle.course.specs.declared.Step.the-variants.{Scale}
+use Rattle.course.specs.declared.Place.the-variants.{At}
+use Rattle.course.specs.StepList.{costOf, opensOf}
+use Rattle.walk.proofs.Acted.{square}
+use Rattle.solver.specs.Refusals.{costAt, columnOf, no12}
+use Rattle.verdict.proofs.Verdicts.{tests}
+use Rattle.solver.proofs.Ready.{not-of-four, no-pivot, at-step, pivot-cell, pivot-told}
 use Rattle.solver.proofs.checks.no12.Statement.{statement}
 use Rattle.solver.proofs.checks.no12.Tie as tie
 
 enum-known-p : tie.Need-enum-known-p
 enum-known-p c = search needs
 
-pivot-is-zero-requires : tie.Need-pivot-is-zero-requires
-unfolding maskAt nonzeroAt
-pivot-is-zero-requires c κs =
-    let pre = c .before .before .before .before .before .before .pre in
-    let e = c .before .p .given .1 in
-    (pre .0, (at-step (c .before .before .before .before .before .before .args .o) _ _ e (pre .1 .0), (pre .1 .1 .0, (rw e at (pre .1 .1 .1 .0), pre .1 .1 .1 .1))))
+returns : tie.Need-returns
+returns c = no-pivot _ _ _ (λ j e. ⊎-elim (λ h. omega arith) (λ h. omega arith) (rw e at (c .match .keys2)))
 
-column-of-requires : tie.Need-column-of-requires
-column-of-requires c κs = search needs
+enum-known-s : tie.Need-enum-known-s
+enum-known-s c = search needs
+
+returns-2 : tie.Need-returns-2
+returns-2 c =
+    no-pivot _ _ _
+    (λ j e.
+    let at = c .before .before .p .given .1 in
+    let same : c .before .before .p .given .0 .0 ≡ Scale j = cc in
+    not-of-four (λ h. omega arith) (λ h. omega arith) (λ h. omega arith) (λ h. omega arith) (rw same at (c .match2 .keys2)))
+
+add-opens-zero : tie.Need-add-opens-zero
+add-opens-zero c = search needs
+
+opens-zero-requires : tie.Need-opens-zero-requires
+unfolding costAt costOf
+opens-zero-requires c κs =
+    let k = c .before .before .before .before in
+    let start = k .before .before .before .before .before in
+    let pre = start .pre in
+    let e = k .p .given .1 ∙ ap At (c .before .s .given .1) in
+    let long = rw e at (pre .1 .1 .1 .0) in
+    (square (pre .0), (pivot-cell (start .args .o) _ (at-step (start .args .o) _ _ e (pre .1 .0)), (pre .1 .1 .0, long .0, long .1)))
 
 refuse-if-requires : tie.Need-refuse-if-requires
 refuse-if-requires c κs = search needs
 
-enum-told : tie.Need-enum-told
-enum-told c = search needs
-
-enum-told-2 : tie.Need-enum-told-2
-enum-told-2 c = search needs
-
-returns : tie.Need-returns
-unfolding no12 zeroPivot columnAt
-returns c = rw (c .before .before .before .before .p .given .1, ← (c .before .before .pivot-is-zero .ensures), ← (c .before .column-of .ensures)) (c .refuse-if .ensures)
-
-returns-2 : tie.Need-returns-2
-unfolding no12 zeroPivot
-returns-2 c = simp (c .enum-told .given .1)
-
 returns-3 : tie.Need-returns-3
-unfolding no12 zeroPivot
-returns-3 c = simp (c .enum-told2 .given .1)
+unfolding no12 opensOf columnOf costAt
+returns-3 c =
+    let k = c .before .before .before .before .before .before in
+    let start = k .before .before .before .before .before in
+    let pre = start .pre in
+    let e = k .p .given .1 ∙ ap At (c .before .before .before .s .given .1) in
+    rw e
+    (tests _ (c .refuse-if .ensures)
+    (c .before .opens-zero .ensures
+    ∙ pivot-told _ _ _ _ _ (at-step (start .args .o) _ _ e (pre .1 .0)) (pre .1 .1 .0) ((rw e at (pre .1 .1 .1 .0)) .1) (pre .1 .1 .1 .1)))
 
 pub no12-spec : {M : Type 1} → statement M
 no12-spec =
     tie.close
     (tie.spec
     enum-known-p
-    pivot-is-zero-requires
-    column-of-requires
-    refuse-if-requires
-    enum-told
-    enum-told-2
     returns
+    enum-known-s
     returns-2
+    add-opens-zero
+    opens-zero-requires
+    refuse-if-requires
     returns-3)

@@ -1,0 +1,303 @@
+// The program refusals_step: lends step bad input, every refusal of it and the orders of two that apply together, and prints each call,
+// its answer, and what was lent before and after. Stands on solver, and on show to print.
+// Bytes are printed in hex after their buffer's length, other numbers in decimal.
+// The lists of calls are short: what a check of a function costs grows faster than its length.
+use course::Order;
+use course::Place;
+use course::Progress;
+use course::Step;
+use show::call::BLANK;
+use show::call::LARGEST;
+use show::call::MASK;
+use show::call::TABLE;
+use show::call::ZERO_PIVOT;
+use show::call::order;
+use solver::Stepped;
+
+// Rows (0,1),(1,0), b = (5,7), in two shares.
+const TWO: [u8; 12] = [4, 4, 4, 5, 10, 15, 3, 2, 10, 10, 15, 8];
+
+fn at(o: Order, place: Place) -> Progress {
+    Progress {
+        field: o.field,
+        shares: o.shares,
+        size: o.size,
+        place,
+    }
+}
+
+fn begin_step(
+    words: &[u8],
+    p: Progress,
+    table: &[u8],
+    solution: &[u8],
+    mask: &[u8],
+    nonzero: &[u8],
+) {
+    show::call::begin(b"step", words);
+    show::call::lent(table, solution, mask, nonzero);
+    show::record(p);
+    show::call::middle();
+}
+
+// Lends copies of the table and the solution.
+fn step_in(
+    p: Progress,
+    table: &[u8],
+    solution: &[u8],
+    mask: &[u8],
+    nonzero: &[u8],
+    t: &mut [u8],
+    x: &mut [u8],
+) -> Stepped {
+    show::call::copy(table, t);
+    show::call::copy(solution, x);
+    solver::step(p, t, x, mask, nonzero)
+}
+
+// The record after a step, and the rest of its line.
+fn end_record(p: Progress, q: Progress, same: bool) {
+    show::record(q);
+    show::text(b"; ");
+    show::call::end(same && show::same_record(p, q));
+}
+
+// The copies begin t and x.
+fn end_step(
+    p: Progress,
+    q: Progress,
+    table: &[u8],
+    solution: &[u8],
+    mask: &[u8],
+    nonzero: &[u8],
+    t: &[u8; 16],
+    x: &[u8; 4],
+) {
+    let u = &t[..];
+    let y = &x[..];
+    let k = table.len();
+    let m = solution.len();
+    if u.len() < k || y.len() < m {
+        return show::call::too_long();
+    }
+    show::call::after();
+    show::call::lent(&u[0..k], &y[0..m], mask, nonzero);
+    let same = show::alike(table, &u[0..k]) && show::alike(solution, &y[0..m]);
+    end_record(p, q, same);
+}
+
+fn step(words: &[u8], p: Progress, table: &[u8], solution: &[u8], mask: &[u8], nonzero: &[u8]) {
+    let mut t = [0u8; 16];
+    let mut x = [0u8; 4];
+    let k = table.len();
+    let m = solution.len();
+    if 16 < k || 4 < m {
+        return show::call::too_long();
+    }
+    begin_step(words, p, table, solution, mask, nonzero);
+    let a = step_in(
+        p,
+        table,
+        solution,
+        mask,
+        nonzero,
+        &mut t[0..k],
+        &mut x[0..m],
+    );
+    let answer = a.answer;
+    let q = a.next;
+    show::say(show::of_stepping(answer));
+    end_step(p, q, table, solution, mask, nonzero, &t, &x);
+}
+
+fn check(j: u64) -> Place {
+    Place::At(Step::Check(j))
+}
+
+fn scale(j: u64) -> Place {
+    Place::At(Step::Scale(j))
+}
+
+fn open(j: u64) -> Place {
+    Place::At(Step::Open(j))
+}
+
+fn mix(j: u64, k: u64) -> Place {
+    Place::At(Step::Mix { j, k })
+}
+
+fn clear(j: u64, k: u64) -> Place {
+    Place::At(Step::Clear { j, k })
+}
+
+// A good place, table, solution and tapes.
+fn step_of(words: &[u8], o: Order) {
+    let a = MASK;
+    step(words, at(o, check(1)), &TABLE, &[0xee], &a[..5], &[]);
+}
+
+fn steps_of_sizes() {
+    step_of(b"field 7 and shares 0", order(7, 0, 1));
+    step_of(b"field 65552", order(65552, 2, 1));
+    step_of(b"shares 5", order(16, 5, 1));
+    step_of(b"size 97", order(16, 2, 97));
+}
+
+// One equation in two shares over F16, a solution that is too long, and no tapes.
+fn step_blank(words: &[u8], table: &[u8]) {
+    step(
+        words,
+        at(order(16, 2, 1), check(1)),
+        table,
+        &BLANK,
+        &[],
+        &[],
+    );
+}
+
+fn steps_of_buffers() {
+    step_blank(b"a table of 3 bytes, and a solution of 2", &[4, 6, 10]);
+    step_blank(b"a solution of 2 bytes, at a step that writes none", &TABLE);
+}
+
+// One equation in two shares over F16.
+fn step_one(words: &[u8], place: Place, table: &[u8], mask: &[u8], nonzero: &[u8]) {
+    step(
+        words,
+        at(order(16, 2, 1), place),
+        table,
+        &[0xee],
+        mask,
+        nonzero,
+    );
+}
+
+// A made-up place, with a large byte in the table and no tapes: 10 and 11 go before 6 and 7.
+fn made_up(words: &[u8], place: Place) {
+    step_one(words, place, &[4, 6, 0x10, 9], &[], &[]);
+}
+
+fn steps_off_list() {
+    made_up(b"Mix, of which one equation has none", mix(1, 2));
+    made_up(b"Mix with j = 2^64-1", mix(LARGEST, 1));
+    made_up(b"Check(0)", check(0));
+    made_up(b"Check with j = 2^64-1", check(LARGEST));
+    made_up(b"Scale with j = 2^64-1", scale(LARGEST));
+    made_up(b"Clear with j = k = 2^64-1", clear(LARGEST, LARGEST));
+    made_up(b"Clear with j = k", clear(1, 1));
+    made_up(b"Open(2)", open(2));
+    made_up(b"Open with j = 2^64-1", open(LARGEST));
+}
+
+fn steps_at_end() {
+    made_up(b"stopped at 0", Place::Stopped(0));
+    made_up(b"stopped at m+1", Place::Stopped(2));
+    made_up(b"stopped at 1, and a large byte", Place::Stopped(1));
+    made_up(b"done, and a large byte", Place::Done);
+}
+
+// Check of one equation.
+fn check_one(words: &[u8], mask: &[u8], nonzero: &[u8]) {
+    step_one(words, check(1), &TABLE, mask, nonzero);
+}
+
+fn checks_of_lengths() {
+    let a = MASK;
+    let words = b"a byte of 16, and no mask byte";
+    step_one(words, check(1), &[4, 6, 9, 0x10], &[], &[]);
+    check_one(b"4 mask bytes where 5 are wanted", &a[..4], &[]);
+    check_one(b"6 mask bytes where 5 are wanted", &a[..6], &[]);
+    check_one(b"a nonzero byte where none is wanted", &a[..5], &[0xba]);
+}
+
+// Scale of one equation, with a good mask tape.
+fn scale_one(words: &[u8], table: &[u8], nonzero: &[u8]) {
+    let a = MASK;
+    step_one(words, scale(1), table, &a[..6], nonzero);
+}
+
+fn scales_of_lengths() {
+    let words = b"no mask byte, and no nonzero byte";
+    step_one(words, scale(1), &TABLE, &[], &[]);
+    scale_one(b"no nonzero byte where one is wanted", &TABLE, &[]);
+    let words = b"two nonzero bytes where one is wanted";
+    scale_one(words, &TABLE, &[0xba, 0xba]);
+}
+
+fn scales_of_draws() {
+    scale_one(b"a nonzero draw of 0", &TABLE, &[0]);
+    scale_one(b"a nonzero byte of 0x10, the draw 0", &TABLE, &[0x10]);
+    scale_one(b"a zero pivot and a nonzero draw of 0", &ZERO_PIVOT, &[0]);
+    scale_one(b"a zero pivot", &ZERO_PIVOT, &[0xba]);
+}
+
+// Two equations in two shares over F16.
+fn step_two(words: &[u8], place: Place, mask: &[u8], nonzero: &[u8]) {
+    step(
+        words,
+        at(order(16, 2, 2), place),
+        &TWO,
+        &BLANK,
+        mask,
+        nonzero,
+    );
+}
+
+fn scales_beyond_one() {
+    let a = MASK;
+    step_two(b"a zero pivot in row 2", scale(2), &a[..6], &[0xba]);
+    let p = at(order(16, 3, 1), scale(1));
+    let words = b"three shares, and the second nonzero draw is 0";
+    step(
+        words,
+        p,
+        &[1, 1, 2, 5, 5, 3],
+        &[0xee],
+        &[0x10; 19],
+        &[0xba, 0],
+    );
+}
+
+fn steps_accepted() {
+    check_one(b"Check, with mask bytes of 0x10, accepted", &[0x10; 5], &[]);
+    let words = b"Scale, with mask bytes of 0x10, accepted";
+    step_one(words, scale(1), &TABLE, &[0x10; 6], &[0xba]);
+}
+
+fn steps_accepted_at_end() {
+    let a = MASK;
+    let words = b"Open, the last step, accepted";
+    step_one(words, open(1), &[9, 8, 6, 14], &a[..1], &[]);
+    let words = b"Check of a column of zeros, accepted";
+    step_one(words, check(1), &ZERO_PIVOT, &a[..5], &[]);
+}
+
+fn mixes_of_two() {
+    let a = MASK;
+    let words = b"Mix with 6 mask bytes where 7 are wanted";
+    step_two(words, mix(1, 2), &a[..6], &[]);
+    step_two(b"Mix, accepted", mix(1, 2), &a[..7], &[]);
+}
+
+fn clears_of_two() {
+    let a = MASK;
+    let words = b"Clear with 4 mask bytes where 3 are wanted";
+    step_two(words, clear(1, 2), &a[..4], &[]);
+    step_two(b"Clear, accepted", clear(1, 2), &a[..3], &[]);
+    step_two(b"Open(2), accepted", open(2), &a[..1], &[]);
+}
+
+fn main() {
+    steps_of_sizes();
+    steps_of_buffers();
+    steps_off_list();
+    steps_at_end();
+    checks_of_lengths();
+    scales_of_lengths();
+    scales_of_draws();
+    scales_beyond_one();
+    steps_accepted();
+    steps_accepted_at_end();
+    mixes_of_two();
+    clears_of_two();
+}

@@ -1,0 +1,5 @@
+pub mod Spread
+pub mod Streams
+pub mod Products
+pub mod Gather
+pub mod Shares

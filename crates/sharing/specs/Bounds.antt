@@ -1,0 +1,36 @@
+-- 01, "Sizes and layout": the limits, and what follows from them for costs and for the room that the code keeps. The prover multiplies them
+-- out, so another limit is another number here and in the constants of sharing/src.
+-- Assumes nothing.
+use Prim.Native.Nat.{ℕ, _+_, _*_, _/_}
+
+-- the size of a system is 1 to 96; a row has an entry for each column of A, and one of b
+abbrev pub mostRows : ℕ
+mostRows = 96
+
+abbrev pub mostWidth : ℕ
+mostWidth = 97
+
+abbrev pub mostEntries : ℕ
+mostEntries = mostRows * mostWidth
+
+-- m(m+2) steps
+abbrev pub mostSteps : ℕ
+mostSteps = mostRows * (mostRows + 2)
+
+-- the draws of a Scale of a whole row in four shares; no step takes more
+abbrev pub mostDraws : ℕ
+mostDraws = 15 + 12 * mostWidth
+
+-- room for a row: four bytes an entry, in whole blocks of 16
+abbrev pub rowRoom : ℕ
+rowRoom = (mostWidth * 4 + 15) / 16 * 16
+
+-- room for n work rows: n bytes an entry, in whole blocks of 48, or of 16 for n = 4
+abbrev pub workRoom2 : ℕ
+workRoom2 = 2 * ((mostWidth * 2 + 47) / 48 * 48)
+
+abbrev pub workRoom3 : ℕ
+workRoom3 = 3 * ((mostWidth * 3 + 47) / 48 * 48)
+
+abbrev pub workRoom4 : ℕ
+workRoom4 = 4 * rowRoom
