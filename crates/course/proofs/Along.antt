@@ -17,7 +17,7 @@ use Rattle.course.specs.declared.Order.{Order}
 use Rattle.course.specs.declared.Progress.{Progress}
 use Rattle.course.specs.declared.Counts.{Counts}
 use Rattle.course.specs.StepList.{stepList, upTo, inList, maskCost, nonzeroCost, sumOver, sums, fullMask, fullNonzero}
-use Rattle.course.specs.Next.{firstOf, after, nextOf, Chain}
+use Rattle.course.specs.Next.{firstOf, following, nextOf, Chain}
 use Rattle.course.proofs.Within.{within}
 use Rattle.course.proofs.Chain.{unique, chain as list-chain, tail, tail-chain, list-split}
 use Rattle.course.proofs.Members.{AllIn, all-in}
@@ -50,8 +50,8 @@ first-calm m j = either Calm (ltb j m) tt tt
 
 module _ (m : ℕ) where
   -- a step that opens 0 does not stop
-  pub after-calm : (s : Step) → Calm (after m s 0)
-  unfolding after
+  pub after-calm : (s : Step) → Calm (following m s 0)
+  unfolding following
   after-calm (Mix j k) = either Calm (ltb k m) tt tt
   after-calm (Check j) = tt
   after-calm (Scale j) = either Calm (ltb j m) tt tt
@@ -59,8 +59,8 @@ module _ (m : ℕ) where
   after-calm (Open j) = either Calm (ltb 1 j) tt tt
 
   -- whatever a step opened, the same steps are left
-  pub resume-after : (s : Step) (x : ℕ) → resume (after m s x) ≡ after m s 0
-  unfolding after
+  pub resume-after : (s : Step) (x : ℕ) → resume (following m s x) ≡ following m s 0
+  unfolding following
   resume-after (Mix j k) x = calm-resume _ (after-calm (Mix j k))
   resume-after (Check j) x = either (λ p. resume p ≡ At (Scale j)) (eqb x 1) refl refl
   resume-after (Scale j) x = calm-resume _ (after-calm (Scale j))
@@ -68,7 +68,7 @@ module _ (m : ℕ) where
   resume-after (Open j) x = calm-resume _ (after-calm (Open j))
 
   -- the first step left is the one at the place
-  pub first : (s : Step) (rest : List Step) → Chain m (At s) rest Done → (more : List Step) × (rest ≡ s ∷ more) × Chain m (after m s 0) more Done
+  pub first : (s : Step) (rest : List Step) → Chain m (At s) rest Done → (more : List Step) × (rest ≡ s ∷ more) × Chain m (following m s 0) more Done
   first s [] h = let z : _≡_ {A = ℕ} 0 1 = cc in absurd (let n : ⊥ = omega arith in n)
   first s (x ∷ xs) h = let e : s ≡ x = cc in rw e (xs, refl, h .1)
 
@@ -78,7 +78,7 @@ module _ (m : ℕ) where
   none (x ∷ xs) h = let z : _≡_ {A = ℕ} 0 1 = cc in absurd (let n : ⊥ = omega arith in n)
 
 -- a record at a step of the list is moved on to the place after it
-pub next-place : {m : ℕ} (p : Progress) (s : Step) (x : ℕ) → p .size ≡ m → p .place ≡ At s → inList m s ≡ true → nextOf p x .place ≡ after m s x
+pub next-place : {m : ℕ} (p : Progress) (s : Step) (x : ℕ) → p .size ≡ m → p .place ≡ At s → inList m s ≡ true → nextOf p x .place ≡ following m s x
 unfolding nextOf
 next-place p s x z e h = rw (z, e, h)
 
@@ -123,7 +123,7 @@ module _ (o : Order) where
         let e = first (o .size) s (g .rest) (g .leads) .1 in
         (omega (arith, g .steps, ap length e), omega (arith, g .mask, ap (sumOver (maskCost o)) e), omega (arith, g .nonzero, ap (sumOver (nonzeroCost o)) e))
 
-    pub turn-along : Along o (At s) k a b → (x : ℕ) → Along o (after (o .size) s x) (k + 1) (a + maskCost o s) (b + nonzeroCost o s)
+    pub turn-along : Along o (At s) k a b → (x : ℕ) → Along o (following (o .size) s x) (k + 1) (a + maskCost o s) (b + nonzeroCost o s)
     unfolding sumOver
     turn-along g x =
         let f = first (o .size) s (g .rest) (g .leads) in

@@ -13,12 +13,12 @@ use Rattle.course.specs.declared.Step.the-variants.{Mix, Check, Scale, C
 use Rattle.course.specs.declared.Place.{Place}
 use Rattle.course.specs.declared.Place.the-variants.{At, Done}
 use Rattle.course.specs.StepList.{each, column, columns, openings, stepList, upTo}
-use Rattle.course.specs.Next.{firstOf, after, Chain}
+use Rattle.course.specs.Next.{firstOf, following, Chain}
 
 module _ (m : ℕ) where
   join : (p q r : Place) (a b : List Step) → Chain m p a q → Chain m q b r → Chain m p (a ++ b) r
   join p q r [] b h g = rw h g
-  join p q r (x ∷ a) b h g = (h .0, join (after m x 0) q r a b (h .1) g)
+  join p q r (x ∷ a) b h g = (h .0, join (following m x 0) q r a b (h .1) g)
 
   -- the steps from a place on are determined by it
   pub unique : (p : Place) (a b : List Step) → Chain m p a Done → Chain m p b Done → a ≡ b
@@ -27,7 +27,7 @@ module _ (m : ℕ) where
   unique p (x ∷ a) [] h g = let z : _≡_ {A = ℕ} 0 1 = cc in absurd (let n : ⊥ = omega arith in n)
   unique p (x ∷ a) (y ∷ b) h g =
       let e : x ≡ y = cc in
-      rw e (ap (λ (l : List Step). y ∷ l) (unique (after m y 0) a b (rw e at (h .1)) (g .1)))
+      rw e (ap (λ (l : List Step). y ∷ l) (unique (following m y 0) a b (rw e at (h .1)) (g .1)))
 
   below : {A : Type 0} (k : ℕ) (x y : A) → k < m → pick (ltb k m) x y ≡ x
   below k x y l = rw (lt-ltb k m l)
@@ -36,15 +36,15 @@ module _ (m : ℕ) where
   beyond k x y l = rw (le-ltb k m l)
 
   -- f a, .., f m, each of which leads to the next, and the last to e
-  run-of : (f : ℕ → Step) (e : Place) → ((k : ℕ) → k < m → after m (f k) 0 ≡ At (f (k + 1))) → after m (f m) 0 ≡ e
+  run-of : (f : ℕ → Step) (e : Place) → ((k : ℕ) → k < m → following m (f k) 0 ≡ At (f (k + 1))) → following m (f m) 0 ≡ e
       → (n a : ℕ) → a + n ≡ m → Chain m (At (f a)) (each f a (suc n)) e
   unfolding each
   run-of f e h l zero a s = let z : a ≡ m = omega arith in rw z (refl, l)
   run-of f e h l (suc n) a s = (refl, rw (h a (omega arith)) (run-of f e h l n (a + 1) (omega arith)))
 
   -- f (j+1), .., f m, or none
-  part : (f : ℕ → Step) (q e : Place) → ((k : ℕ) → k < m → after m (f k) 0 ≡ At (f (k + 1)))
-      → (j d : ℕ) → j + d ≡ m → (j < m → q ≡ At (f (j + 1))) → (j < m → after m (f m) 0 ≡ e) → (m ≤ j → q ≡ e) → Chain m q (each f (j + 1) d) e
+  part : (f : ℕ → Step) (q e : Place) → ((k : ℕ) → k < m → following m (f k) 0 ≡ At (f (k + 1)))
+      → (j d : ℕ) → j + d ≡ m → (j < m → q ≡ At (f (j + 1))) → (j < m → following m (f m) 0 ≡ e) → (m ≤ j → q ≡ e) → Chain m q (each f (j + 1) d) e
   part f q e h j zero s a l b = unfold each in b (omega arith)
   part f q e h j (suc d) s a l b = rw (a (omega arith)) (run-of f e h (l (omega arith)) d (j + 1) (omega arith))
 
@@ -53,21 +53,21 @@ module _ (m : ℕ) where
   nextColumn j = pick (ltb j m) (firstOf m (j + 1)) (At (Open m))
 
   mixes : (j : ℕ) → j ≤ m → Chain m (firstOf m j) (each (Mix j) (j + 1) (m - j)) (At (Check j))
-  unfolding after firstOf
+  unfolding following firstOf
   mixes j l = part (Mix j) _ _ (λ k s. below k _ _ s) j (m - j) (omega arith) (λ s. below j _ _ s) (λ s. beyond m _ _ (omega arith)) (λ s. beyond j _ _ s)
 
-  clears : (j : ℕ) → j ≤ m → Chain m (after m (Scale j) 0) (each (Clear j) (j + 1) (m - j)) (nextColumn j)
-  unfolding after nextColumn
+  clears : (j : ℕ) → j ≤ m → Chain m (following m (Scale j) 0) (each (Clear j) (j + 1) (m - j)) (nextColumn j)
+  unfolding following nextColumn
   clears j l =
       part (Clear j) _ _ (λ k s. below k _ _ s) j (m - j) (omega arith) (λ s. below j _ _ s)
       (λ s. beyond m _ _ (omega arith) ∙ sym (below j _ _ s)) (λ s. beyond j _ _ s ∙ sym (beyond j _ _ s))
 
   column-chain : (j : ℕ) → j ≤ m → Chain m (firstOf m j) (column m j) (nextColumn j)
-  unfolding column after
+  unfolding column following
   column-chain j l = join _ _ _ (each (Mix j) (j + 1) (m - j)) _ (mixes j l) (refl, (refl, clears j l))
 
-  opened : (n : ℕ) → Chain m (after m (Open (suc n)) 0) (openings n) Done
-  unfolding openings after
+  opened : (n : ℕ) → Chain m (following m (Open (suc n)) 0) (openings n) Done
+  unfolding openings following
   opened zero = refl
   opened (suc n) =
       let l : 1 < suc (suc n) = omega arith in

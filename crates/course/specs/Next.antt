@@ -19,15 +19,15 @@ unfoldable pub firstOf : ℕ → ℕ → Place
 firstOf m j = pick (ltb j m) (At (Mix j (j + 1))) (At (Check j))
 
 -- the place after a step of the list that opened x; only Check looks at x
-unfoldable pub after : ℕ → Step → ℕ → Place
-after m (Mix j k) x = pick (ltb k m) (At (Mix j (k + 1))) (At (Check j))
-after m (Check j) x = pick (eqb x 1) (Stopped j) (At (Scale j))
-after m (Scale j) x = pick (ltb j m) (At (Clear j (j + 1))) (At (Open m))
-after m (Clear j k) x = pick (ltb k m) (At (Clear j (k + 1))) (firstOf m (j + 1))
-after m (Open j) x = pick (ltb 1 j) (At (Open (j - 1))) Done
+unfoldable pub following : ℕ → Step → ℕ → Place
+following m (Mix j k) x = pick (ltb k m) (At (Mix j (k + 1))) (At (Check j))
+following m (Check j) x = pick (eqb x 1) (Stopped j) (At (Scale j))
+following m (Scale j) x = pick (ltb j m) (At (Clear j (j + 1))) (At (Open m))
+following m (Clear j k) x = pick (ltb k m) (At (Clear j (k + 1))) (firstOf m (j + 1))
+following m (Open j) x = pick (ltb 1 j) (At (Open (j - 1))) Done
 
 abbrev pub placeAfter : ℕ → Place → ℕ → Place
-placeAfter m (At s) x = pick (inList m s) (after m s x) (At s)
+placeAfter m (At s) x = pick (inList m s) (following m s x) (At s)
 placeAfter m (Stopped j) x = Stopped j
 placeAfter m Done x = Done
 
@@ -44,4 +44,4 @@ startOf o =
 -- from place p the steps of the list are met one after the other, where no Check opens 1, and then place q
 abbrev pub Chain : ℕ → Place → List Step → Place → Type 0
 Chain m p [] q = p ≡ q
-Chain m p (s ∷ ss) q = (p ≡ At s) × Chain m (after m s 0) ss q
+Chain m p (s ∷ ss) q = (p ≡ At s) × Chain m (following m s 0) ss q

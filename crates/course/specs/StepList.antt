@@ -81,18 +81,18 @@ abbrev pub nonzeroCost : Order → Step → ℕ
 nonzeroCost o s = costOf o s .nonzero
 
 -- what a step opens, with its j: Check the flag of T[j,j], Scale T[j,j] itself, blinded, and Open the unknown x_j
-pub data Opens : Type 0 where
-  None : Opens
-  Flag : ℕ → Opens
-  Pivot : ℕ → Opens
-  Unknown : ℕ → Opens
+pub data Revealed : Type 0 where
+  None : Revealed
+  Flag : ℕ → Revealed
+  Pivot : ℕ → Revealed
+  Unknown : ℕ → Revealed
 
-unfoldable pub opensOf : Step → Opens
-opensOf (Mix j k) = None
-opensOf (Check j) = Flag j
-opensOf (Scale j) = Pivot j
-opensOf (Clear j k) = None
-opensOf (Open j) = Unknown j
+unfoldable pub revealedBy : Step → Revealed
+revealedBy (Mix j k) = None
+revealedBy (Check j) = Flag j
+revealedBy (Scale j) = Pivot j
+revealedBy (Clear j k) = None
+revealedBy (Open j) = Unknown j
 
 unfoldable pub sumOver : (Step → ℕ) → List Step → ℕ
 sumOver cost [] = 0

@@ -2,7 +2,7 @@
 ghost use mathlib.Core.Path.{_≡_};
 ghost use mathlib.Core.Bool.{true};
 ghost use Rattle.course.specs.StepList.{Sizes, inList, costOf, stepList, sums};
-ghost use Rattle.course.specs.Next.{firstOf, after, nextOf, startOf};
+ghost use Rattle.course.specs.Next.{firstOf, following, nextOf, startOf};
 
 // One of the five steps with its j and k. Check, Scale and Open carry j only.
 pub enum Step {
@@ -74,7 +74,7 @@ fn first_of(m: u64, j: u64) -> Place
 // The place after a step of the list that opened x.
 fn place_after(m: u64, s: Step, x: u8) -> Place
     requires { ⌜ inList m s ≡ true ⌝ }
-    ensures { λ r. ⌜ r ≡ after m s x ⌝ }
+    ensures { λ r. ⌜ r ≡ following m s x ⌝ }
 {
     match s {
         Step::Mix { j, k } => {

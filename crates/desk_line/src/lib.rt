@@ -13,7 +13,7 @@ use solver::Counting;
 use verdict::Refusal;
 
 // Puts a text at a place of out, and answers the place behind it.
-fn put(text: &[u8], out: &mut [u8], at: usize) -> usize
+fn append(text: &[u8], out: &mut [u8], at: usize) -> usize
     requires { ⌜ at + length (now text) ≤ length (now out) ⌝ }
     ensures { λ r. ⌜ Wrote (now (out .entry)) at (now (text .entry)) (now (out .exit)) r ⌝ }
 {
@@ -25,7 +25,7 @@ fn put(text: &[u8], out: &mut [u8], at: usize) -> usize
     at + i
 }
 
-// Puts a number in decimal and one byte behind it, as put does. A number has at most 20 digits.
+// Puts a number in decimal and one byte behind it, as append does. A number has at most 20 digits.
 fn number(n: usize, end: u8, out: &mut [u8], at: usize) -> usize
     requires { ⌜ at + 21 ≤ length (now out) ⌝ }
     ensures { λ r. ⌜ Wrote (now (out .entry)) at (decimal n ++ (end ∷ [])) (now (out .exit)) r ⌝ }
@@ -33,7 +33,7 @@ fn number(n: usize, end: u8, out: &mut [u8], at: usize) -> usize
 {
     let mut digits = [0u8; 20];
     let k = io::decimal(n as u64, &mut digits);
-    let p = put(&digits[..k], out, at);
+    let p = append(&digits[..k], out, at);
     out[p] = end;
     p + 1
 }
@@ -50,7 +50,7 @@ fn refused(k: usize, out: &mut [u8]) -> usize
     requires { ⌜ 64 ≤ length (now out) ⌝ }
     ensures { λ r. ⌜ Made (now (out .entry)) (refusedLine k) (now (out .exit)) r ⌝ }
 {
-    let at = put(b"refused ", out, 0);
+    let at = append(b"refused ", out, 0);
     number(k, b'\n', out, at)
 }
 

@@ -5,7 +5,7 @@ use show::FILLED;
 use show::REFUSED;
 use show::SOLVED;
 use show::STOPPED;
-use show::Told;
+use show::Words;
 use solver::Filling;
 use solver::Solving;
 use verdict::Refusal;
@@ -51,7 +51,7 @@ fn end(t: Tally, good: bool) -> Tally {
 }
 
 // An example whose outcome is an answer.
-fn compare(t: Tally, name: &[u8], want: Told, came: Told) -> Tally {
+fn compare(t: Tally, name: &[u8], want: Words, came: Words) -> Tally {
     show::text(name);
     show::text(b": wanted ");
     show::say(want);
@@ -61,7 +61,7 @@ fn compare(t: Tally, name: &[u8], want: Told, came: Told) -> Tally {
 }
 
 // The rest of an example whose outcome is an answer and bytes, which begin y.
-fn compare_bytes(t: Tally, want: Told, x: &[u8], came: Told, y: &[u8]) -> Tally {
+fn compare_bytes(t: Tally, want: Words, x: &[u8], came: Words, y: &[u8]) -> Tally {
     let k = x.len();
     if y.len() < k {
         return end(t, false);
@@ -112,7 +112,7 @@ fn system(
     field: u64,
     shares: u64,
     values: &[u8],
-    want: Told,
+    want: Words,
     x: &[u8],
 ) -> Tally {
     let mut y = [0xeeu8; 2];
@@ -123,19 +123,19 @@ fn system(
 }
 
 // Solved with x, or stopped at a column.
-fn solved() -> Told {
+fn solved() -> Words {
     show::tell(SOLVED, 0, 0, 0)
 }
 
-fn stopped(j: u64) -> Told {
+fn stopped(j: u64) -> Words {
     show::tell(STOPPED, j, 0, 0)
 }
 
-fn refused(number: u64, detail: u64) -> Told {
+fn refused(number: u64, detail: u64) -> Words {
     show::tell(REFUSED, number, detail, 0)
 }
 
-fn counts(steps: u64, mask: u64, nonzero: u64) -> Told {
+fn counts(steps: u64, mask: u64, nonzero: u64) -> Words {
     show::tell(COUNTS, steps, mask, nonzero)
 }
 
@@ -185,7 +185,7 @@ fn counted_run(
     shares: u64,
     size: usize,
     values: &[u8],
-    want: Told,
+    want: Words,
 ) -> Tally {
     let mut x = [0xeeu8; 2];
     let a = tried(field, shares, size, values, &mut x);
@@ -193,7 +193,7 @@ fn counted_run(
 }
 
 // The counts that the call counts gives.
-fn counted(t: Tally, name: &[u8], field: u64, shares: u64, size: u64, want: Told) -> Tally {
+fn counted(t: Tally, name: &[u8], field: u64, shares: u64, size: u64, want: Words) -> Tally {
     let c = solver::counts(field, shares, size);
     compare(t, name, want, show::of_counting(c))
 }
@@ -252,7 +252,7 @@ fn counts_of_orders(t: Tally) -> Tally {
     counted(t, name, 256, 4, 96, counts(9408, 3778608, 288))
 }
 
-fn started(t: Tally, name: &[u8], field: u64, shares: u64, size: u64, want: Told) -> Tally {
+fn started(t: Tally, name: &[u8], field: u64, shares: u64, size: u64, want: Words) -> Tally {
     let s = solver::start(field, shares, size);
     compare(t, name, want, show::of_start(s))
 }
@@ -265,7 +265,7 @@ fn edges_of_sizes(t: Tally) -> Tally {
 }
 
 // [2]x=[3] in two shares, solved with a mask tape.
-fn masked(t: Tally, name: &[u8], mask: &[u8], want: Told) -> Tally {
+fn masked(t: Tally, name: &[u8], mask: &[u8], want: Words) -> Tally {
     let mut table = [4u8, 6, 10, 9];
     let mut x = [0xeeu8; 1];
     let a = solver::solve(16, 2, 1, &mut table, &mut x, mask, &[0xba]);

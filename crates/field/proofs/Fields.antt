@@ -10,7 +10,7 @@ use lib.Bits.{bitXor, xor-mod}
 use lib.ListN.{getD}
 use lib.Dec.{T, eqb, eqb→eq, ltb, ltb→lt, lit<}
 use Rattle.field.specs.Poly.{times, left, product}
-use Rattle.field.specs.Field.{Ops, Ring, Field, pick, sub, inv, binary, bitwise, Binary, fieldOf, width, F16, F256}
+use Rattle.field.specs.Field.{Ops, Ring, Field, pick, sub, inv, binary, bitwise, Binary, fieldOf, bits, F16, F256}
 use Rattle.field.proofs.Linear.{both, both-left, both-right, all, all-at}
 use Rattle.field.proofs.Inverses.{mul-left, inv-unique, inv-zero}
 use Rattle.field.proofs.Product.{Modulus, closed?, one?, comm?, assoc?}
@@ -116,8 +116,8 @@ binaries true = (19, refl)
 binaries false = (283, refl)
 
 pub binary-of : (f : ℕ) → Binary f
-unfolding fieldOf width
-binary-of f = let w = binaries (eqb f 16) in record { modulus = w .0; is = w .1 }
+unfolding fieldOf bits
+binary-of f = record { sixteen = eqb f 16; is = refl; has = refl }
 
 -- sum and difference are both exclusive or
 sub-binary : (w m a b : ℕ) → sub (binary w m) a b ≡ binary w m .add a b
@@ -125,16 +125,25 @@ sub-binary w m a b =
     xor-mod a (b % 2 ^ w) w ∙ ap (bitXor (a % 2 ^ w)) (mod-mod b (2 ^ w)) ∙ sym (xor-mod a b w)
 
 module _ {f : ℕ} (B : Binary f) where
+  abbrev width : ℕ
+  width = pick (B .sixteen) 4 8
+
+  abbrev modulus : ℕ
+  modulus = binaries (B .sixteen) .0
+
+  words : fieldOf f ≡ binary width modulus
+  words = B .is ∙ binaries (B .sixteen) .1
+
   pub sub-add : (a b : ℕ) → sub (fieldOf f) a b ≡ fieldOf f .add a b
-  sub-add a b = rw (B .is) (sub-binary (width f) (B .modulus) a b)
+  sub-add a b = rw words (sub-binary width modulus a b)
 
   pub add-xor : (a b : ℕ) → fieldOf f .add a b ≡ bitXor a b % fieldOf f .q
-  add-xor a b = rw (B .is) refl
+  add-xor a b = rw words refl
 
   -- exclusive or respects what its sides leave modulo q
   pub xor-same : (a b c d : ℕ) → a % fieldOf f .q ≡ c % fieldOf f .q → b % fieldOf f .q ≡ d % fieldOf f .q
       → bitXor a b % fieldOf f .q ≡ bitXor c d % fieldOf f .q
-  xor-same a b c d = rw (B .is) (λ x y. xor-mod a b (width f) ∙ ap₂ bitXor x y ∙ sym (xor-mod c d (width f)))
+  xor-same a b c d = rw words (λ x y. xor-mod a b width ∙ ap₂ bitXor x y ∙ sym (xor-mod c d width))
 
   pub bitwise-of : Ring (bitwise (fieldOf f))
-  bitwise-of = rw (B .is) (bitwise-ring (width f) (B .modulus))
+  bitwise-of = rw words (bitwise-ring width modulus)

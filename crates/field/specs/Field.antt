@@ -85,13 +85,14 @@ unfoldable pub fieldOf : ℕ → Ops
 fieldOf f = pick (eqb f 16) F16 F256
 
 -- w, the bits of an element
-unfoldable pub width : ℕ → ℕ
-width f = pick (eqb f 16) 4 8
+unfoldable pub bits : ℕ → ℕ
+bits f = pick (eqb f 16) 4 8
 
--- a field of polynomials whose coefficients are bits. What holds of exclusive or alone is said of these, and both of 01's are
+-- f names one of the two binary fields: what holds of exclusive or alone is said under this premise
 pub record Binary (f : ℕ) : Type 0 where
-  pub modulus : ℕ
-  pub is : fieldOf f ≡ binary (width f) modulus
+  pub sixteen : Bool
+  pub is : fieldOf f ≡ pick sixteen F16 F256
+  pub has : bits f ≡ pick sixteen 4 8
 
 -- the same sums, with bitwise and for the product: a ring, whose one is the word of ones
 unfoldable pub bitwise : Ops → Ops

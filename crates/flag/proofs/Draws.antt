@@ -6,7 +6,7 @@ use mathlib.Core.List.{List}
 use native.Mathlib.Omega.{arith}
 use native.Mathlib.Nat.{le-refl}
 use lib.ListN.{length, drop}
-use Rattle.field.specs.Field.{Ops, fieldOf, width}
+use Rattle.field.specs.Field.{Ops, fieldOf, bits}
 use Rattle.sharing.specs.Run.{pairs}
 use Rattle.sharing.specs.Lists.{SameDraws}
 use Rattle.sharing.proofs.Pairs.{run-same}
@@ -37,6 +37,6 @@ zeroFlag-draws f {ds} {es} s d =
     ap lowBits
     (run-same (foldTurn f ds (length s)) (foldTurn f es (length s)) (length s) (folds f) (foldTurn-length f ds (length s))
     (λ k h t e.
-    fold-draws (fieldOf f) (width f / 2 ^ (k + 1)) t (rw e (same-turn (fieldOf f) k (foldDraws (length s)) h d)))
+    fold-draws (fieldOf f) (bits f / 2 ^ (k + 1)) t (rw e (same-turn (fieldOf f) k (foldDraws (length s)) h d)))
     (complemented (fieldOf f) s)
     (complemented-length (fieldOf f) s))

@@ -12,7 +12,7 @@ use lib.Bits.{bitXor, bitAnd, xor-mod}
 use lib.Pow.{mod-mod-pow}
 use lib.Dec.{T, eqb, eqb→eq}
 use borrow.Author.Tests.{ne-eqb}
-use Rattle.field.specs.Field.{Ops, Ring, pick, F16, F256, fieldOf, width, bitwise}
+use Rattle.field.specs.Field.{Ops, Ring, Binary, pick, F16, F256, fieldOf, bits, bitwise}
 use Rattle.field.proofs.Linear.{Additive, at-zero, high, low, all, all-at}
 use Rattle.field.proofs.Fields.{field-of, binary-of, bitwise-of}
 use Rattle.sharing.specs.Run.{run}
@@ -49,9 +49,8 @@ unfolding F16 F256
 words true = record { size = refl; adds = λ a b. refl; some = omega arith }
 words false = record { size = refl; adds = λ a b. refl; some = omega arith }
 
-words-of : (f : ℕ) → Words (fieldOf f) (width f)
-unfolding fieldOf width
-words-of f = words (eqb f 16)
+words-of : {f : ℕ} → Binary f → Words (fieldOf f) (bits f)
+words-of B = rw (B .is, B .has) (words (B .sixteen))
 
 -- what a fold by h does to the value
 folded : Ops → ℕ → ℕ → ℕ
@@ -100,17 +99,17 @@ module _ (F : Ops) (R : Ring F) (w : ℕ) (W : Words F w) where
 flagged : Ops → ℕ → ℕ → ℕ → ℕ
 flagged F w k v = run (λ i. folded F (w / 2 ^ (i + 1))) k (F .add v (F .q - 1)) % 2
 
-flag-runs : (f : ℕ) (ds s : List ℕ) → 0 < length s → sum (fieldOf f) (zeroFlag f ds s) ≡ flagged (fieldOf f) (width f) (folds f) (sum (fieldOf f) s)
+flag-runs : (f : ℕ) (ds s : List ℕ) → 0 < length s → sum (fieldOf f) (zeroFlag f ds s) ≡ flagged (fieldOf f) (bits f) (folds f) (sum (fieldOf f) s)
 unfolding zeroFlag flagged run
 flag-runs f ds s h =
     let F : Ops = fieldOf f in
     let R : Ring F = field-of f .ring in
-    let turn : ℕ → ℕ → ℕ = λ i. folded F (width f / 2 ^ (i + 1)) in
+    let turn : ℕ → ℕ → ℕ = λ i. folded F (bits f / 2 ^ (i + 1)) in
     let s₀ : List ℕ = complemented F s in
-    sum-lowBits F R (width f) (words-of f) (run (foldTurn f ds (length s)) (folds f) s₀)
+    sum-lowBits F R (bits f) (words-of (binary-of f)) (run (foldTurn f ds (length s)) (folds f) s₀)
     ∙ ap (λ (v : ℕ). v % 2)
     (run-holds (λ (k : ℕ) (t : List ℕ). sum F t ≡ run turn k (sum F s₀)) (foldTurn f ds (length s)) (folds f)
-    (λ k l t e. sum-fold F R (width f) (words-of f) (bitwise-of (binary-of f)) (width f / 2 ^ (k + 1)) (drop (k * foldDraws (length s)) ds) t ∙ ap (turn k) e)
+    (λ k l t e. sum-fold F R (bits f) (words-of (binary-of f)) (bitwise-of (binary-of f)) (bits f / 2 ^ (k + 1)) (drop (k * foldDraws (length s)) ds) t ∙ ap (turn k) e)
     s₀ refl
     ∙ ap (run turn (folds f)) (sum-addAt F R 0 (F .q - 1) s h))
 
@@ -122,8 +121,8 @@ unfolding F16 F256 right flagged flagOf folded run
 tests true = tt
 tests false = tt
 
-test-of : (f : ℕ) → T (all (fieldOf f .q) (right (fieldOf f) (width f) (folds f)))
-unfolding fieldOf width folds
+test-of : (f : ℕ) → T (all (fieldOf f .q) (right (fieldOf f) (bits f) (folds f)))
+unfolding fieldOf bits folds
 test-of f = tests (eqb f 16)
 
 module _ (f : ℕ) (ds s : List ℕ) (h : 0 < length s) where
@@ -131,7 +130,7 @@ module _ (f : ℕ) (ds s : List ℕ) (h : 0 < length s) where
   unfolding right
   sum-zeroFlag =
       flag-runs f ds s h
-      ∙ eqb→eq _ _ (all-at (fieldOf f .q) (right (fieldOf f) (width f) (folds f)) (test-of f) (sum (fieldOf f) s) (sum-lt (fieldOf f) (field-of f .ring) s))
+      ∙ eqb→eq _ _ (all-at (fieldOf f .q) (right (fieldOf f) (bits f) (folds f)) (test-of f) (sum (fieldOf f) s) (sum-lt (fieldOf f) (field-of f .ring) s))
 
   pub zeroFlag-zero : sum (fieldOf f) s ≡ 0 → sum (fieldOf f) (zeroFlag f ds s) ≡ 1
   unfolding flagOf

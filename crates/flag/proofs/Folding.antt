@@ -8,7 +8,7 @@ use native.Mathlib.Omega.{arith}
 use lib.Dec.{eqb}
 use lib.ListN.{drop}
 use lib.Seq.{drop-drop}
-use Rattle.field.specs.Field.{pick, fieldOf, width}
+use Rattle.field.specs.Field.{pick, fieldOf, bits}
 use Rattle.sharing.specs.Run.{run}
 use Rattle.flag.specs.Flag.{folds, foldDraws, foldTurn, fold}
 
@@ -30,7 +30,7 @@ folds-few f = few (eqb f 16)
 
 pub fold-two : (f n : ℕ) (ds s : List ℕ) → eqb f 16 ≡ true
     → fold (fieldOf f) 1 (drop (foldDraws n) ds) (fold (fieldOf f) 2 ds s) ≡ run (foldTurn f ds n) (folds f) s
-unfolding width run
+unfolding bits run
 fold-two f n ds s e =
     let none : 0 * foldDraws n ≡ 0 = omega arith in
     let one : 1 * foldDraws n ≡ foldDraws n = omega arith in
@@ -38,7 +38,7 @@ fold-two f n ds s e =
 
 pub fold-three : (f n : ℕ) (ds s : List ℕ) → eqb f 16 ≡ false
     → fold (fieldOf f) 1 (drop (foldDraws n) (drop (foldDraws n) ds)) (fold (fieldOf f) 2 (drop (foldDraws n) ds) (fold (fieldOf f) 4 ds s)) ≡ run (foldTurn f ds n) (folds f) s
-unfolding width run
+unfolding bits run
 fold-three f n ds s e =
     let none : 0 * foldDraws n ≡ 0 = omega arith in
     let one : 1 * foldDraws n ≡ foldDraws n = omega arith in

@@ -5,7 +5,7 @@ use Prim.Native.Nat.{ℕ, _+_, _-_, _*_, _/_, _%_, _^_}
 use mathlib.Core.List.{List, map}
 use lib.ListN.{length, drop}
 use lib.Dec.{eqb}
-use Rattle.field.specs.Field.{Ops, fieldOf, width, bitwise, pick}
+use Rattle.field.specs.Field.{Ops, fieldOf, bits, bitwise, pick}
 use Rattle.sharing.specs.Run.{run, pairs}
 use Rattle.sharing.specs.Rules.{drawAt, addAt, refresh, crossed, productOver}
 
@@ -46,7 +46,7 @@ fold F h ds s = andOf F (drop (freshDraws (length s)) ds) s (freshShift F h ds s
 -- for h = w/2, halving down to 1
 abbrev pub foldTurn : ℕ → List ℕ → ℕ → ℕ → List ℕ → List ℕ
 foldTurn f ds n i s =
-    fold (fieldOf f) (width f / 2 ^ (i + 1)) (drop (i * foldDraws n) ds) s
+    fold (fieldOf f) (bits f / 2 ^ (i + 1)) (drop (i * foldDraws n) ds) s
 
 -- at last keep bit 0 of each share
 unfoldable pub lowBits : List ℕ → List ℕ

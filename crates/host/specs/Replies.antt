@@ -10,7 +10,7 @@ use Rattle.walk.specs.declared.Ending.the-variants.{Solved, Stopped}
 use Rattle.verdict.specs.Told.{Line}
 use Rattle.verdict.specs.Refusals.{reportOf}
 use Rattle.verdict.specs.Calls.{Says, refuses, gives}
-use Rattle.solver.specs.Calls.{Full, filled, Stride, moved, opening, stopped, done}
+use Rattle.solver.specs.Calls.{Full, filled, Stride, moved, found, stopped, done}
 use Rattle.host.specs.declared.replies.Reply.{Reply}
 
 abbrev pub reply : ℕ → ℕ → ℕ → ℕ → ℕ → Reply
@@ -27,7 +27,7 @@ refusalReply l = let r = reportOf l in reply 0 (r .number) (r .a) (r .b) (r .c)
 -- Step
 unfoldable pub strideReply : Stride → Reply
 strideReply moved = reply 1 0 0 0 0
-strideReply (opening j x) = reply 2 j x 0 0
+strideReply (found j x) = reply 2 j x 0 0
 strideReply (stopped j) = reply 3 j 0 0 0
 strideReply (done x) = reply 4 x 0 0 0
 

@@ -17,7 +17,7 @@ struct Host {
 }
 
 // One call's answer, and the host after it.
-struct Told {
+struct Words {
     answer: Stepping,
     host: Host,
 }
@@ -36,7 +36,7 @@ fn same_bytes(g: Host, h: Host) -> bool {
     check::same(&t, &u) && check::same(&x, &y)
 }
 
-fn same(g: Told, h: Told) -> bool {
+fn same(g: Words, h: Words) -> bool {
     let a = g.answer;
     let b = h.answer;
     let i = g.host;
@@ -95,14 +95,14 @@ fn print_host(h: Host) {
     print_solution(&x);
 }
 
-fn print_told(t: Told) {
+fn print_told(t: Words) {
     let a = t.answer;
     let h = t.host;
     show::say(show::of_stepping(a));
     print_host(h);
 }
 
-fn by_lent(h: Host, mask: &[u8], nonzero: &[u8]) -> Told {
+fn by_lent(h: Host, mask: &[u8], nonzero: &[u8]) -> Words {
     let p = h.record;
     let mut t = h.table;
     let mut x = h.solution;
@@ -110,7 +110,7 @@ fn by_lent(h: Host, mask: &[u8], nonzero: &[u8]) -> Told {
     outcome(r, &t, &x)
 }
 
-fn by_value(h: Host, mask: &[u8], nonzero: &[u8]) -> Told {
+fn by_value(h: Host, mask: &[u8], nonzero: &[u8]) -> Words {
     let p = h.record;
     let mut t = h.table;
     let mut x = h.solution;
@@ -118,7 +118,7 @@ fn by_value(h: Host, mask: &[u8], nonzero: &[u8]) -> Told {
     outcome(r, &t, &x)
 }
 
-fn outcome(r: Stepped, t: &[u8; 12], x: &[u8; 2]) -> Told {
+fn outcome(r: Stepped, t: &[u8; 12], x: &[u8; 2]) -> Words {
     let a = r.answer;
     let p = r.next;
     let h = Host {
@@ -126,7 +126,7 @@ fn outcome(r: Stepped, t: &[u8; 12], x: &[u8; 2]) -> Told {
         table: *t,
         solution: *x,
     };
-    Told { answer: a, host: h }
+    Words { answer: a, host: h }
 }
 
 // One call in each form, and its line.

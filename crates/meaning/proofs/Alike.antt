@@ -20,20 +20,8 @@ use Rattle.walk.specs.Act.{held}
 use Rattle.walk.specs.Walk.{solved, Counters}
 use Rattle.walk.proofs.Counted.{solved-counters}
 use Rattle.meaning.specs.Meaning.{valueOf, IsSolved, Means}
-use Rattle.meaning.proofs.Meant.{Lent, Left, meant, left}
-
--- the same answer, up to the counts
-abbrev pub Same : Ending → Ending → Type 0
-Same (Solved c) (Solved d) = Unit {0}
-Same (Solved c) (Stopped j d) = ⊥
-Same (Stopped i c) (Solved d) = ⊥
-Same (Stopped i c) (Stopped j d) = i ≡ j
-
--- the shares add up to the same equations
-pub record SameValues (o p : Order) (t u : List ℕ) : Type 0 where
-  pub field : o .field ≡ p .field
-  pub size : o .size ≡ p .size
-  pub values : (r c : ℕ) → 1 ≤ r → r ≤ o .size → 1 ≤ c → c ≤ o .size + 1 → valueOf o t r c ≡ valueOf p u r c
+use Rattle.meaning.specs.Claims.{Given, Left, Same, SameValues}
+use Rattle.meaning.proofs.Meant.{meant, left}
 
 -- what is said of a field and a size
 same-sizes : {o p : Order} {t u : List ℕ} → SameValues o p t u → (P : Ops → ℕ → Type 0) → P (fieldOf (o .field)) (o .size)
@@ -67,7 +55,7 @@ module _ (o : Order) (t : List ℕ) where
   one-answer (Stopped i c) (Stopped j d) x y h lx g ly = (stopped-once F (o .size) (valueOf o t) h g, lx ∙ sym ly)
 
 -- the same answer, and the same bytes of the solution
-pub alike : (o p : Order) (ms zs t x ns ys u y : List ℕ) → Lent o zs t x → Lent p ys u y → SameValues o p t u
+pub alike : (o p : Order) (ms zs t x ns ys u y : List ℕ) → Given o zs t x → Given p ys u y → SameValues o p t u
     → Same (solved o ms zs (held t x) .answer) (solved p ns ys (held u y) .answer)
     × (solved o ms zs (held t x) .left .solution ≡ solved p ns ys (held u y) .left .solution)
 alike o p ms zs t x ns ys u y l k s =
@@ -86,7 +74,7 @@ counted-same o (Stopped i c) (Solved d) s x y = absurd s
 counted-same o (Stopped i c) (Stopped j d) s x y = ap₂ Stopped s (x ∙ ap (λ (k : ℕ). sums o (upTo (o .size) k)) s ∙ sym y)
 
 -- in one order neither the shares nor the tapes change the answer, its counters or the solution
-pub answer-alike : (o : Order) (ms zs t x ns ys u y : List ℕ) → Lent o zs t x → Lent o ys u y → SameValues o o t u
+pub answer-alike : (o : Order) (ms zs t x ns ys u y : List ℕ) → Given o zs t x → Given o ys u y → SameValues o o t u
     → (solved o ms zs (held t x) .answer ≡ solved o ns ys (held u y) .answer)
     × (solved o ms zs (held t x) .left .solution ≡ solved o ns ys (held u y) .left .solution)
 answer-alike o ms zs t x ns ys u y l k s =

@@ -23,8 +23,8 @@ use Rattle.walk.specs.Act.{held}
 use Rattle.walk.specs.Walk.{solved}
 use Rattle.walk.specs.Dealing.{dealtEntry, dealTurn, dealt, gathered}
 use Rattle.meaning.specs.Meaning.{valueOf}
-use Rattle.meaning.proofs.Meant.{Lent}
-use Rattle.meaning.proofs.Alike.{Same, SameValues, alike}
+use Rattle.meaning.specs.Claims.{Given, Same, SameValues, dealtFor}
+use Rattle.meaning.proofs.Alike.{alike}
 
 module _ (f n : ℕ) (some : 0 < n) (vs ds : List ℕ) where
   turn-keeps : Keeps n (dealTurn f n vs ds)
@@ -63,10 +63,6 @@ module _ (f n : ℕ) (some : 0 < n) (vs ds : List ℕ) where
     gather-deal lv below =
         tab-ext k (λ e h. dealt-sum e h ∙ mod-eq-of-lt (below e h)) ∙ ap (λ (i : ℕ). tab i (λ e. getD vs e 0)) (sym lv) ∙ tab-list vs
 
--- the dealt table of an order
-abbrev pub dealtFor : Order → List ℕ → List ℕ → List ℕ → List ℕ
-dealtFor o vs ds t = dealt (o .field) (o .shares) (o .size * (o .size + 1)) vs ds t
-
 module _ (o : Order) (some : 0 < o .shares) (vs ds t : List ℕ) (lt : length t ≡ tableBytes (o .shares) (o .size) (o .size + 1)) where
   -- entry ((r-1)(m+1)+(c-1)) of the values is the value of row r, column c
   pub dealtFor-value : (r c : ℕ) → 1 ≤ r → r ≤ o .size → 1 ≤ c → c ≤ o .size + 1
@@ -82,7 +78,7 @@ module _ (o : Order) (some : 0 < o .shares) (vs ds t : List ℕ) (lt : length t 
   dealtFor-length = dealt-length (o .field) (o .shares) some vs ds (o .size * (o .size + 1)) t lt
 
 -- a dealt table is one that a solve is lent
-lent-dealt : (o : Order) (vs ds zs t x : List ℕ) → Lent o zs t x → Lent o zs (dealtFor o vs ds t) x
+lent-dealt : (o : Order) (vs ds zs t x : List ℕ) → Given o zs t x → Given o zs (dealtFor o vs ds t) x
 lent-dealt o vs ds zs t x l =
     record {
       sizes = l .sizes;
@@ -91,8 +87,8 @@ lent-dealt o vs ds zs t x l =
       nonzero = l .nonzero;
     }
 
-module _ (o p : Order) (field : o .field ≡ p .field) (size : o .size ≡ p .size) (vs ds zs t x es ys u y : List ℕ) (l : Lent o zs t x)
-    (k : Lent p ys u y) where
+module _ (o p : Order) (field : o .field ≡ p .field) (size : o .size ≡ p .size) (vs ds zs t x es ys u y : List ℕ) (l : Given o zs t x)
+    (k : Given p ys u y) where
   dealt-same : SameValues o p (dealtFor o vs ds t) (dealtFor p vs es u)
   dealt-same =
       record {

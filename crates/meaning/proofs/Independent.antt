@@ -10,21 +10,16 @@ use Rattle.algebra.specs.Linear.{combination}
 use Rattle.algebra.proofs.Independent.{apart-usual, usual-apart}
 use Rattle.course.specs.declared.Order.{Order}
 use Rattle.meaning.specs.Meaning.{valueOf, Apart}
+use Rattle.meaning.specs.Claims.{Independent}
 use Rattle.meaning.proofs.Link.{value-lt}
 
 module _ (o : Order) (t : List ℕ) where
   abbrev m : ℕ
   m = o .size
 
-  -- no other factors than 0 make the m columns add up to 0 in every equation
-  abbrev pub Independent : Type 0
-  Independent =
-      (v : ℕ → ℕ) → ((r : ℕ) → 1 ≤ r → r ≤ m → combination (fieldOf (o .field)) (valueOf o t r) v m ≡ 0) → (c : ℕ) → 1 ≤ c → c ≤ m
-      → v c % fieldOf (o .field) .q ≡ 0
-
-  pub independent-usual : ((j : ℕ) → 1 ≤ j → j ≤ m → Apart o t j) → Independent
+  pub independent-usual : ((j : ℕ) → 1 ≤ j → j ≤ m → Apart o t j) → Independent o t
   independent-usual = apart-usual (fieldOf (o .field)) (field-of (o .field)) m (valueOf o t) (value-lt o t)
 
   -- and the other way
-  pub usual-independent : Independent → (j : ℕ) → 1 ≤ j → j ≤ m → Apart o t j
+  pub usual-independent : Independent o t → (j : ℕ) → 1 ≤ j → j ≤ m → Apart o t j
   usual-independent = usual-apart (fieldOf (o .field)) (field-of (o .field)) m (valueOf o t)

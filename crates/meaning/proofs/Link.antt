@@ -10,8 +10,8 @@ use Rattle.field.proofs.Fields.{field-of}
 use Rattle.sharing.specs.Rules.{drawAt}
 use Rattle.flag.specs.Flag.{flagOf}
 use Rattle.sharing.proofs.Sums.{sum-lt}
-use Rattle.table.specs.Layout.{tableBytes, entry, Place}
-use Rattle.table.specs.Steps.{mix, check, scale, clear, opens, lift}
+use Rattle.table.specs.Layout.{tableBytes, entry, Inside}
+use Rattle.table.specs.Steps.{mix, check, scale, clear, unknownAt, lift}
 use Rattle.table.specs.Values.{value}
 use Rattle.table.proofs.Entries.{mix-kept, clear-kept, scale-kept, lift-kept}
 use Rattle.table.proofs.Values.{kept-value, mix-value, check-value, clear-value, opens-value, lift-value, scale-value}
@@ -41,7 +41,7 @@ module _ (o : Order) (some : 0 < o .shares) (t : List ℕ) (lt : length t ≡ ta
   val = valueOf o t
 
   abbrev At : ℕ → ℕ → Type 0
-  At r c = Place m w r c
+  At r c = Inside m w r c
 
   place : {r c : ℕ} → In m w r c → At r c
   place P = record { row-low = P .0; row-high = P .1; column-low = P .2; column-high = P .3 }
@@ -81,7 +81,7 @@ module _ (o : Order) (some : 0 < o .shares) (t : List ℕ) (lt : length t ≡ ta
         }
 
     -- what Open opens is the value of its row's last entry
-    pub opens-link : (ds : List ℕ) → opens f n w j ds t ≡ val j w
+    pub opens-link : (ds : List ℕ) → unknownAt f n w j ds t ≡ val j w
     unfolding valueOf value
     opens-link ds = opens-value f n m w t lt j ds
 

@@ -17,9 +17,10 @@ use Rattle.walk.specs.declared.Ending.the-variants.{Solved, Stopped}
 use Rattle.walk.specs.Act.{held}
 use Rattle.walk.specs.Walk.{Course, running, stopped, walk, fresh, conclude, solved}
 use Rattle.meaning.specs.Meaning.{valueOf, Means}
+use Rattle.meaning.specs.Claims.{Given, Left}
 use Rattle.meaning.proofs.Link.{value-lt}
 use Rattle.meaning.proofs.Listed.{Stands, listed}
-use Rattle.meaning.proofs.Walked.{NoZero, SoundIn, valuesOf, walked, walked-sound}
+use Rattle.meaning.proofs.Walked.{SoundIn, valuesOf, walked, walked-sound}
 
 -- from the values at the end of the walk to the answer
 concluded : (o : Order) (t : List ℕ) (c : Course)
@@ -30,24 +31,12 @@ unfolding conclude
 concluded o t (running u) h = h
 concluded o t (stopped j u) h = h
 
--- what a solve that is not refused is lent
-pub record Lent (o : Order) (zs t x : List ℕ) : Type 0 where
-  pub sizes : Sizes o
-  pub table : length t ≡ tableBytes (o .shares) (o .size) (o .size + 1)
-  pub solution : length x ≡ o .size
-  pub nonzero : NoZero o zs
-
--- the bytes of the solution that a call leaves: one for each unknown, and 0 on stopped
-abbrev pub Left : ℕ → Ending → List ℕ → Type 0
-Left m (Solved c) x = length x ≡ m
-Left m (Stopped j c) x = x ≡ replicate m 0
-
 left-by : (o : Order) (c : Course) → SoundIn o [] c → Left (o .size) (conclude c .answer) (conclude c .left .solution)
 unfolding conclude
 left-by o (running u) s = s .places
 left-by o (stopped j u) s = ap (λ (k : ℕ). replicate k 0) s
 
-module _ (o : Order) (ms zs t x : List ℕ) (l : Lent o zs t x) where
+module _ (o : Order) (ms zs t x : List ℕ) (l : Given o zs t x) where
   some : 0 < o .shares
   some = omega (arith, l .sizes .two)
 

@@ -18,21 +18,18 @@ use Rattle.algebra.proofs.Column.{flag-yes, flag-no}
 use Rattle.course.specs.declared.Step.{Step}
 use Rattle.course.specs.declared.Step.the-variants.{Mix, Check, Scale, Clear, Open}
 use Rattle.course.specs.declared.Order.{Order}
-use Rattle.course.specs.StepList.{stepList, costOf, nonzeroCost, opensOf, sumOver, fullNonzero}
+use Rattle.course.specs.StepList.{stepList, costOf, nonzeroCost, revealedBy, sumOver, fullNonzero}
 use Rattle.course.proofs.Within.{Within, within}
 use Rattle.course.proofs.Members.{AllIn, all-in}
 use Rattle.walk.specs.Act.{held, opened, acted}
-use Rattle.walk.specs.Walk.{Tally, Course, running, stopped, opens, spent, then, walk, fresh}
+use Rattle.walk.specs.Walk.{Tally, Course, running, stopped, openedAt, spent, then, walk, fresh}
 use Rattle.walk.proofs.Acted.{pivot, under, acted-sized, acted-places}
 use Rattle.walk.proofs.Walked.{settle, then-settled}
 use Rattle.meaning.specs.Meaning.{valueOf}
+use Rattle.meaning.specs.Claims.{NoZero}
 use Rattle.meaning.proofs.Link.{value-lt, mix-link, check-link, scale-link, clear-link, opens-link, lift-link}
 use Rattle.meaning.proofs.Listed as P
 use Rattle.meaning.proofs.Listed.{Acts, Performs}
-
--- no draw that a full solve takes from the nonzero tape is 0
-abbrev pub NoZero : Order → List ℕ → Type 0
-NoZero o zs = (k : ℕ) → k < fullNonzero o → drawAt (fieldOf (o .field)) zs k ≡ 0 → ⊥
 
 module _ (o : Order) where
   -- what holds before the steps l: the lengths, and that their nonzero draws are among those of a full solve
@@ -75,8 +72,8 @@ module _ (o : Order) (some : 0 < o .shares) (ms zs : List ℕ) (nonzero : NoZero
         room = omega (arith, g .room);
       }
 
-  settle-sound : (s : Step) (l : List Step) (x : ℕ) (t : Tally) → Sound o l t → SoundIn o l (settle (opensOf s) x t)
-  unfolding opensOf
+  settle-sound : (s : Step) (l : List Step) (x : ℕ) (t : Tally) → Sound o l t → SoundIn o l (settle (revealedBy s) x t)
+  unfolding revealedBy
   settle-sound (Mix j k) l x t g = g
   settle-sound (Check j) l x t g = go (eqb x 1)
     where
@@ -89,22 +86,22 @@ module _ (o : Order) (some : 0 < o .shares) (ms zs : List ℕ) (nonzero : NoZero
 
   next-sound : (s : Step) (l : List Step) → Within m s → (c : Course) → SoundIn o (s ∷ l) c → SoundIn o l (then o ms zs s c)
   next-sound s l u (running t) g =
-      rw (then-settled o ms zs s t) (settle-sound s l (opens o ms zs s t) (spent o ms zs s t) (after-sound s l u t g))
+      rw (then-settled o ms zs s t) (settle-sound s l (openedAt o ms zs s t) (spent o ms zs s t) (after-sound s l u t g))
   next-sound s l u (stopped j t) g = g
 
   step-acts : (s : Step) (l : List Step) → Within m s → (t : Tally) → Sound o (s ∷ l) t
-      → Acts (fieldOf f) m s (valuesOf o (running t)) (valuesOf o (settle (opensOf s) (opens o ms zs s t) (spent o ms zs s t)))
-  unfolding acted opened opensOf costOf scaleNonzero
+      → Acts (fieldOf f) m s (valuesOf o (running t)) (valuesOf o (settle (revealedBy s) (openedAt o ms zs s t) (spent o ms zs s t)))
+  unfolding acted opened revealedBy costOf scaleNonzero
   step-acts (Mix j k) l u t g =
       P.mixed (value-lt o _)
       (mix-link o some (t .left .table) (g .table) (pivot (u .0) (omega arith)) (under (u .0) (u .1) (u .2)) (drop (t .mask) ms))
   step-acts (Check j) l u t g =
       let e = check-link o some (t .left .table) (g .table) (pivot (u .0) (u .1)) (drop (t .mask) ms) in
       elim (ℕ-discrete (valueOf o (t .left .table) j j) 0) [
-        | yes z ↦ rw (eq-eqb (opens o ms zs (Check j) t) 1 (e ∙ flag-yes z)) (P.halts z)
+        | yes z ↦ rw (eq-eqb (openedAt o ms zs (Check j) t) 1 (e ∙ flag-yes z)) (P.halts z)
         | no n ↦
-            let x : opens o ms zs (Check j) t ≡ 0 = e ∙ flag-no n in
-            rw (ne-eqb (opens o ms zs (Check j) t) 1 (λ y. omega arith)) (P.passed n)
+            let x : openedAt o ms zs (Check j) t ≡ 0 = e ∙ flag-no n in
+            rw (ne-eqb (openedAt o ms zs (Check j) t) 1 (λ y. omega arith)) (P.passed n)
       ]
   step-acts (Scale j) l u t g =
       P.scaled (value-lt o _)
@@ -113,7 +110,7 @@ module _ (o : Order) (some : 0 < o .shares) (ms zs : List ℕ) (nonzero : NoZero
       P.cleared (value-lt o _)
       (clear-link o some (t .left .table) (g .table) (pivot (u .0) (omega arith)) (under (u .0) (u .1) (u .2)) (drop (t .mask) ms))
   step-acts (Open j) l u t g =
-      let x : ℕ = opens o ms zs (Open j) t in
+      let x : ℕ = openedAt o ms zs (Open j) t in
       let e : x ≡ valueOf o (t .left .table) j (m + 1) =
       opens-link o some (t .left .table) (g .table) (pivot (u .0) (u .1)) (drop (t .mask) ms) in
       P.opened (lift-link o some (t .left .table) (g .table) (pivot (u .0) (u .1)) e)

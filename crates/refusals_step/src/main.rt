@@ -1,5 +1,5 @@
 // The program refusals_step: lends step bad input, every refusal of it and the orders of two that apply together, and prints each call,
-// its answer, and what was lent before and after. Stands on solver, and on show to print.
+// its answer, and what was lent before and after; and asks wanted about records, good and bad. Stands on solver, and on show to print.
 // Bytes are printed in hex after their buffer's length, other numbers in decimal.
 // The lists of calls are short: what a check of a function costs grows faster than its length.
 use course::Order;
@@ -13,6 +13,7 @@ use show::call::TABLE;
 use show::call::ZERO_PIVOT;
 use show::call::order;
 use solver::Stepped;
+use solver::Wanting;
 
 // Rows (0,1),(1,0), b = (5,7), in two shares.
 const TWO: [u8; 12] = [4, 4, 4, 5, 10, 15, 3, 2, 10, 10, 15, 8];
@@ -287,6 +288,47 @@ fn clears_of_two() {
     step_two(b"Open(2), accepted", open(2), &a[..1], &[]);
 }
 
+fn wanted(words: &[u8], o: Order, place: Place) {
+    let p = at(o, place);
+    show::call::begin(b"wanted", words);
+    show::record(p);
+    show::call::middle();
+    match solver::wanted(p) {
+        Wanting::Wanted(mask, nonzero) => {
+            show::number(b"mask draws ", mask as u64);
+            show::number(b", nonzero draws ", nonzero as u64);
+        }
+        Wanting::Refused(r) => show::say(show::of_refusal(r)),
+    }
+    show::text(b"\n");
+}
+
+fn wanted_of_sizes() {
+    wanted(b"field 7 and shares 0", order(7, 0, 2), mix(1, 2));
+    wanted(b"shares 1 and size 97", order(16, 1, 97), mix(1, 2));
+    wanted(b"shares 5", order(256, 5, 2), mix(1, 2));
+    wanted(b"size 0, and done", order(16, 2, 0), Place::Done);
+    wanted(b"size 97", order(16, 2, 97), mix(1, 2));
+}
+
+fn wanted_off_list() {
+    let o = order(16, 2, 2);
+    wanted(b"k no larger than j", o, mix(2, 2));
+    wanted(b"column 3 of 2", o, open(3));
+    wanted(b"stopped at column 3 of 2", o, Place::Stopped(3));
+    wanted(b"stopped", o, Place::Stopped(1));
+    wanted(b"done", o, Place::Done);
+}
+
+fn wanted_on_list() {
+    let o = order(16, 2, 2);
+    wanted(b"Mix, accepted", o, mix(1, 2));
+    wanted(b"Check, accepted", o, check(2));
+    wanted(b"Scale, accepted", o, scale(1));
+    wanted(b"Clear, accepted", o, clear(1, 2));
+    wanted(b"Open, accepted", o, open(2));
+}
+
 fn main() {
     steps_of_sizes();
     steps_of_buffers();
@@ -300,4 +342,7 @@ fn main() {
     steps_accepted_at_end();
     mixes_of_two();
     clears_of_two();
+    wanted_of_sizes();
+    wanted_off_list();
+    wanted_on_list();
 }

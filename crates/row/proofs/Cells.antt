@@ -40,23 +40,23 @@ block-there n j u s columns blocks hj hs hu h =
 
 -- ---- the n rows, before and after the products. T u s d is what joins row d at share s of column u
 
-module _ (n w columns : ℕ) (C D : List ℕ) (Z : ℕ → ℕ → ℕ) (P T : ℕ → ℕ → ℕ → ℕ)
+module _ (n span columns : ℕ) (C D : List ℕ) (Z : ℕ → ℕ → ℕ) (P T : ℕ → ℕ → ℕ → ℕ)
     (own : (u s : ℕ) → u < columns → s < n → getD C (u * n + s) 0 ≡ ownDraws n (Z u) s)
-    (pair : (u s d i : ℕ) → u < columns → s < n → 1 ≤ d → i + d ≡ s → getD C (d * w + (u * n + s)) 0 ≡ Z u (before n i + (d - 1)))
-    (none : (u s d : ℕ) → u < columns → s < n → s < d → d < n → getD C (d * w + (u * n + s)) 0 ≡ 0)
-    (joins : (u s d : ℕ) → u < columns → s < n → d < n → getD D (d * w + (u * n + s)) 0 ≡ bitXor (getD C (d * w + (u * n + s)) 0) (T u s d))
+    (pair : (u s d i : ℕ) → u < columns → s < n → 1 ≤ d → i + d ≡ s → getD C (d * span + (u * n + s)) 0 ≡ Z u (before n i + (d - 1)))
+    (none : (u s d : ℕ) → u < columns → s < n → s < d → d < n → getD C (d * span + (u * n + s)) 0 ≡ 0)
+    (joins : (u s d : ℕ) → u < columns → s < n → d < n → getD D (d * span + (u * n + s)) 0 ≡ bitXor (getD C (d * span + (u * n + s)) 0) (T u s d))
     (near : (u s d i : ℕ) → u < columns → s < n → i + d ≡ s → T u s d ≡ P u i s)
     (far : (u s d i : ℕ) → u < columns → s < n → s < d → d < n → i + d ≡ s + n → T u s d ≡ P u i s)
   where
     pub own-term : (u s : ℕ) → u < columns → s < n → getD D (u * n + s) 0 ≡ bitXor (ownDraws n (Z u) s) (P u s s)
     own-term u s hu hs =
-        let e : u * n + s ≡ 0 * w + (u * n + s) = omega (arith, zero-mul w) in
+        let e : u * n + s ≡ 0 * span + (u * n + s) = omega (arith, zero-mul span) in
         ap (λ (y : ℕ). getD D y 0) e ∙ joins u s 0 hu hs (omega arith)
         ∙ ap₂ bitXor (ap (λ (y : ℕ). getD C y 0) (sym e) ∙ own u s hu hs) (near u s 0 s hu hs (omega arith))
 
     -- the pair i < s: its draw and the first cross term
     pub first-term : (u s i : ℕ) → u < columns → s < n → i < s
-        → getD D ((s - i) * w + (u * n + s)) 0 ≡ bitXor (Z u (before n i + (s - suc i))) (P u i s)
+        → getD D ((s - i) * span + (u * n + s)) 0 ≡ bitXor (Z u (before n i + (s - suc i))) (P u i s)
     first-term u s i hu hs hi =
         let e : s - i - 1 ≡ s - suc i = omega arith in
         joins u s (s - i) hu hs (omega arith)
@@ -65,9 +65,9 @@ module _ (n w columns : ℕ) (C D : List ℕ) (Z : ℕ → ℕ → ℕ) (P T : �
 
     -- the second cross term, alone
     pub second-term : (u s i : ℕ) → u < columns → s < n → i < s
-        → getD D ((n - (s - i)) * w + (u * n + s) - (s - i)) 0 ≡ P u s i
+        → getD D ((n - (s - i)) * span + (u * n + s) - (s - i)) 0 ≡ P u s i
     second-term u s i hu hs hi =
-        let e : (n - (s - i)) * w + (u * n + s) - (s - i) ≡ (n - (s - i)) * w + (u * n + i) = omega arith in
+        let e : (n - (s - i)) * span + (u * n + s) - (s - i) ≡ (n - (s - i)) * span + (u * n + i) = omega arith in
         ap (λ (y : ℕ). getD D y 0) e ∙ joins u i (n - (s - i)) hu (omega arith) (omega arith)
         ∙ ap₂ bitXor (none u i (n - (s - i)) hu (omega arith) (omega arith) (omega arith))
         (far u i (n - (s - i)) s hu (omega arith) (omega arith) (omega arith) (omega arith))

@@ -57,15 +57,15 @@ module _ {f : ℕ} (B : Binary f) (n : ℕ) (Z Z' : ℕ → ℕ) (P : ℕ → �
   set-keeps : {x : ℕ} (i v : ℕ) (y : List ℕ) → (s ≡ i → ⊥) → Leaves x y → Leaves x (set y i v)
   set-keeps i v y e H = record { size = length-set y i v ∙ H .size; at = rw (getD-set-other y i s v 0 e) (H .at) }
 
-  add-hits : {x : ℕ} (i v w : ℕ) (y : List ℕ) → i ≡ s → v % fieldOf f .q ≡ w % fieldOf f .q → Leaves x y → Leaves (bitXor x v) (addAt (fieldOf f) i w y)
-  add-hits {x} i v w y e h H =
+  add-hits : {x : ℕ} (i v span : ℕ) (y : List ℕ) → i ≡ s → v % fieldOf f .q ≡ span % fieldOf f .q → Leaves x y → Leaves (bitXor x v) (addAt (fieldOf f) i span y)
+  add-hits {x} i v span y e h H =
       record {
         size = length-set y i _ ∙ H .size;
-        at = rw (e, getD-set-same y s (fieldOf f .add (getD y s 0) w) 0 (omega (arith, H .size))) (add-same x v (getD y s 0) w (H .at) h);
+        at = rw (e, getD-set-same y s (fieldOf f .add (getD y s 0) span) 0 (omega (arith, H .size))) (add-same x v (getD y s 0) span (H .at) h);
       }
 
-  sub-hits : {x : ℕ} (i v w : ℕ) (y : List ℕ) → i ≡ s → v % fieldOf f .q ≡ w % fieldOf f .q → Leaves x y → Leaves (bitXor x v) (subAt (fieldOf f) i w y)
-  sub-hits i v w y e h H = rw (sub-add B (getD y i 0) w) (add-hits i v w y e h H)
+  sub-hits : {x : ℕ} (i v span : ℕ) (y : List ℕ) → i ≡ s → v % fieldOf f .q ≡ span % fieldOf f .q → Leaves x y → Leaves (bitXor x v) (subAt (fieldOf f) i span y)
+  sub-hits i v span y e h H = rw (sub-add B (getD y i 0) span) (add-hits i v span y e h H)
 
   turn-keeps : (k i j : ℕ) → (s ≡ i → ⊥) → (s ≡ j → ⊥) → {x : ℕ} (y : List ℕ) → Leaves x y → Leaves x (productTurn (fieldOf f) Z P k i j y)
   unfolding productTurn

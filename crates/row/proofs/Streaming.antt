@@ -72,61 +72,61 @@ module _ (n : ℕ) (a : List ℕ) where
 
 -- ---- their doubles
 
-module _ (width r : ℕ) (m₀ : List ℕ) (hr : 1 ≤ r) (room : (width - 1) * r + r ≤ length m₀) where
+module _ (bits r : ℕ) (m₀ : List ℕ) (hr : 1 ≤ r) (room : (bits - 1) * r + r ≤ length m₀) where
   -- after k turns
   record Doubling (k : ℕ) (m : List ℕ) : Type 0 where
     size : length m ≡ length m₀
-    done : (q : ℕ) → q < k → getD m (q + r) 0 ≡ doubled width (getD m q 0)
+    done : (q : ℕ) → q < k → getD m (q + r) 0 ≡ doubled bits (getD m q 0)
     first : (q : ℕ) → q < r → getD m q 0 ≡ getD m₀ q 0
 
-  doubling : Doubling ((width - 1) * r) (doubledRows width r m₀)
+  doubling : Doubling ((bits - 1) * r) (doubledRows bits r m₀)
   unfolding doubledRows doubleTurn
   doubling =
-      run-holds Doubling (doubleTurn width r) ((width - 1) * r)
+      run-holds Doubling (doubleTurn bits r) ((bits - 1) * r)
       (λ k l m D.
-      let v : ℕ = doubled width (getD m k 0) in
+      let v : ℕ = doubled bits (getD m k 0) in
       record {
         size = length-set m (k + r) v ∙ D .size;
         done = λ q g. elim (ℕ-discrete q k) [
           | yes e ↦
               rw e (getD-set-same m (k + r) v 0 (omega (arith, D .size))
-              ∙ ap (doubled width) (sym (getD-set-other m (k + r) k v 0 (λ z. omega arith))))
+              ∙ ap (doubled bits) (sym (getD-set-other m (k + r) k v 0 (λ z. omega arith))))
           | no e ↦
               getD-set-other m (k + r) (q + r) v 0 (λ z. e (omega arith)) ∙ D .done q (omega arith)
-              ∙ ap (doubled width) (sym (getD-set-other m (k + r) q v 0 (λ z. omega arith)))
+              ∙ ap (doubled bits) (sym (getD-set-other m (k + r) q v 0 (λ z. omega arith)))
         ];
         first = λ q g. getD-set-other m (k + r) q v 0 (λ z. omega arith) ∙ D .first q g;
       })
       m₀
       (record { size = refl; done = λ q g. absurd (omega arith); first = λ q g. refl })
 
-  pub doubled-first : (q : ℕ) → q < r → getD (doubledRows width r m₀) q 0 ≡ getD m₀ q 0
+  pub doubled-first : (q : ℕ) → q < r → getD (doubledRows bits r m₀) q 0 ≡ getD m₀ q 0
   doubled-first = doubling .first
 
   -- t rows below g, and one more
-  pub doubled-next : (g t : ℕ) → g < r → t + 1 < width
-      → getD (doubledRows width r m₀) (g + (t + 1) * r) 0 ≡ doubled width (getD (doubledRows width r m₀) (g + t * r) 0)
+  pub doubled-next : (g t : ℕ) → g < r → t + 1 < bits
+      → getD (doubledRows bits r m₀) (g + (t + 1) * r) 0 ≡ doubled bits (getD (doubledRows bits r m₀) (g + t * r) 0)
   doubled-next g t hg ht =
       let e : g + (t + 1) * r ≡ g + t * r + r = omega (arith, suc-mul t r) in
-      let l : suc t * r ≤ (width - 1) * r = mul-le-mul-right r (omega arith) in
-      ap (λ (y : ℕ). getD (doubledRows width r m₀) y 0) e ∙ doubling .done (g + t * r) (omega (arith, suc-mul t r))
+      let l : suc t * r ≤ (bits - 1) * r = mul-le-mul-right r (omega arith) in
+      ap (λ (y : ℕ). getD (doubledRows bits r m₀) y 0) e ∙ doubling .done (g + t * r) (omega (arith, suc-mul t r))
 
 -- ---- both together: with them a product is a choice for each bit
 
-module _ (width n turns r : ℕ) (a m : List ℕ) (hr : 1 ≤ r) (room : (width - 1) * r + r ≤ length m) (fits : turns * n ≤ r) where
+module _ (bits n turns r : ℕ) (a m : List ℕ) (hr : 1 ≤ r) (room : (bits - 1) * r + r ≤ length m) (fits : turns * n ≤ r) where
   unfoldable pub stream : List ℕ
-  stream = doubledRows width r (repeated n turns a m)
+  stream = doubledRows bits r (repeated n turns a m)
 
-  inside : (width - 1) * r + r ≤ length (repeated n turns a m)
+  inside : (bits - 1) * r + r ≤ length (repeated n turns a m)
   inside = omega (arith, repeated-length n turns a m)
 
   pub stream-at : (x i : ℕ) → x < turns → i < n → getD stream (x * n + i) 0 ≡ getD a i 0
   unfolding stream
   stream-at x i hx hi =
       let l : suc x * n ≤ turns * n = mul-le-mul-right n hx in
-      doubled-first width r (repeated n turns a m) hr inside (x * n + i) (omega (arith, suc-mul x n))
+      doubled-first bits r (repeated n turns a m) hr inside (x * n + i) (omega (arith, suc-mul x n))
       ∙ repeated-at n a turns m (omega arith) x i hx hi
 
-  pub stream-next : (g t : ℕ) → g < r → t + 1 < width → getD stream (g + (t + 1) * r) 0 ≡ doubled width (getD stream (g + t * r) 0)
+  pub stream-next : (g t : ℕ) → g < r → t + 1 < bits → getD stream (g + (t + 1) * r) 0 ≡ doubled bits (getD stream (g + t * r) 0)
   unfolding stream
-  stream-next = doubled-next width r (repeated n turns a m) hr inside
+  stream-next = doubled-next bits r (repeated n turns a m) hr inside

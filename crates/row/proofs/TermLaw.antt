@@ -12,7 +12,7 @@ use lib.Dec.{T, eqb, lit<}
 use lib.ListN.{getD}
 use lib.Pow.{pow-pos}
 use Rattle.field.specs.Poly.{product}
-use Rattle.field.specs.Field.{pick, binary, F16, F256, fieldOf, width}
+use Rattle.field.specs.Field.{pick, binary, Binary, F16, F256, fieldOf, bits}
 use Rattle.field.proofs.Linear.{all}
 use Rattle.field.proofs.Shift.{double, shift-add, same?, shift-add-product, test4, test8}
 use Rattle.sharing.proofs.Loops.{taken-more}
@@ -62,8 +62,7 @@ terms true m r = term-product 4 3 m r test4
 terms false m r = term-product 8 27 m r test8
 
 -- whatever the byte y: no more bits of it are looked at than the field has
-pub term-mul : (f : ℕ) (m : List ℕ) (r g a y : ℕ) → a < fieldOf f .q → getD m g 0 ≡ a
-    → ((t : ℕ) → t + 1 < width f → getD m (g + (t + 1) * r) 0 ≡ doubled (width f) (getD m (g + t * r) 0))
-    → term m r (width f) g y ≡ fieldOf f .mul a y
-unfolding fieldOf width
-term-mul f = terms (eqb f 16)
+pub term-mul : {f : ℕ} → Binary f → (m : List ℕ) (r g a y : ℕ) → a < fieldOf f .q → getD m g 0 ≡ a
+    → ((t : ℕ) → t + 1 < bits f → getD m (g + (t + 1) * r) 0 ≡ doubled (bits f) (getD m (g + t * r) 0))
+    → term m r (bits f) g y ≡ fieldOf f .mul a y
+term-mul B m r g a y = rw (B .is, B .has) (terms (B .sixteen) m r g a y)

@@ -1,14 +1,14 @@
 // Product of a factor and each entry of a row, for the whole row at once: Mix and Clear spend their time here. Stands on sharing.
 //
 // The bytes stay as they are in the table, an entry's n shares side by side, and the same is done at each byte, so that the compiler takes
-// sixteen at once. There are n rows of w bytes to work in. At share s of a column row d is for the pair of share s and the share d before
+// sixteen at once. There are n rows of span bytes to work in. At share s of a column row d is for the pair of share s and the share d before
 // it. `spread` puts the pair's draw there, and into row 0 what is taken from share s. `products` adds a_(s-d)·b_s, the first cross term. Where
 // there is no share d before, that is a_(s-d+n)·b_s, the second cross term of another pair, and stands alone. `gather` brings the two
 // together and sums. These are loops of their own, through memory: in the machine too the draw joins the first cross term before the
 // second one comes (docs/OBJECT.md).
 //
 // A product is a choice for each bit: `repeat` and `double_rows` make a stream of the factor's shares, over and over, and of their doubles,
-// r bytes for each of the `width` bits. Read from d places before, it has at each byte the share that row d wants.
+// r bytes for each bit of an element. Read from d places before, it has at each byte the share that row d wants.
 ghost use mathlib.Core.Path.{_≡_};
 ghost use Prim.Native.Nat.{_+_, _-_, _*_, _<_, _≤_};
 ghost use lib.ListN.{length};
@@ -19,8 +19,8 @@ ghost use Rattle.sharing.specs.Lists.{Below};
 ghost use Rattle.sharing.specs.Bounds.{mostWidth, rowRoom};
 ghost use Rattle.row.specs.Code.Streams.{doubled, onceTurn, repeated, doubledRows};
 ghost use Rattle.row.specs.Code.Spread.{spreadTurn, spreadAll};
-ghost use Rattle.row.specs.Code.Products.{term, byteProducts, productTurn, allProducts};
-ghost use Rattle.row.specs.Code.Gather.{gathered, blockTurn, gatherAll};
+ghost use Rattle.row.specs.Code.Products.{term, byteProducts, productByteTurn, allProducts};
+ghost use Rattle.row.specs.Code.Gather.{gatheredByte, blockTurn, gatherAll};
 ghost use Rattle.row.specs.Rows.{Products};
 
 mod later;
@@ -35,10 +35,10 @@ const WORK_ROOM_3: usize = 3 * ((sharing::MOST_WIDTH * 3 + 47) / 48 * 48);
 const WORK_ROOM_4: usize = 4 * ROW_ROOM;
 
 // An element times the polynomial x.
-fn doubled(width: usize, x: u8) -> u8
-    ensures { λ r. ⌜ r ≡ doubled width x ⌝ }
+fn doubled(bits: usize, x: u8) -> u8
+    ensures { λ r. ⌜ r ≡ doubled bits x ⌝ }
 {
-    if width == 4 {
+    if bits == 4 {
         ((x << 1) % 16) ^ (((x >> 3) % 2) * 3)
     } else {
         (x << 1) ^ (((x >> 7) % 2) * 27)
@@ -66,20 +66,20 @@ fn repeat(n: usize, turns: usize, m: &mut [u8], a: &[u8])
 }
 
 // Each row of the stream is the one before it, doubled.
-fn double_rows(width: usize, r: usize, m: &mut [u8])
-    requires { ⌜ (1 ≤ width) × (width ≤ 8) × (r ≤ 64) × (width * r ≤ length (now m)) ⌝ }
-    ensures { λ x. ⌜ now (m .exit) ≡ doubledRows width r (now (m .entry)) ⌝ }
+fn double_rows(bits: usize, r: usize, m: &mut [u8])
+    requires { ⌜ (1 ≤ bits) × (bits ≤ 8) × (r ≤ 64) × (bits * r ≤ length (now m)) ⌝ }
+    ensures { λ x. ⌜ now (m .exit) ≡ doubledRows bits r (now (m .entry)) ⌝ }
 {
-    let e = (width - 1) * r;
+    let e = (bits - 1) * r;
     for q in 0..e {
-        m[q + r] = doubled(width, m[q]);
+        m[q + r] = doubled(bits, m[q]);
     }
 }
 
 // The pairs of i; the first of them is pair number at of the column's, whose first byte is at a and whose first draw is number b.
-fn spread_of(n: usize, w: usize, c: &mut [u8], a: usize, z: &[u8], b: usize, i: usize, at: usize)
-    requires { ⌜ (n ≤ 4) × (i < n) × (at ≡ before n i) × (a + n ≤ w) × (w ≤ rowRoom) × (n * w ≤ length (now c)) × (b + pairs n ≤ length (now z)) ⌝ }
-    ensures { λ r. ⌜ now (c .exit) ≡ pairsOf (spreadTurn w (now (z .entry)) a b) n i (now (c .entry)) ⌝ }
+fn spread_of(n: usize, span: usize, c: &mut [u8], a: usize, z: &[u8], b: usize, i: usize, at: usize)
+    requires { ⌜ (n ≤ 4) × (i < n) × (at ≡ before n i) × (a + n ≤ span) × (span ≤ rowRoom) × (n * span ≤ length (now c)) × (b + pairs n ≤ length (now z)) ⌝ }
+    ensures { λ r. ⌜ now (c .exit) ≡ pairsOf (spreadTurn span (now (z .entry)) a b) n i (now (c .entry)) ⌝ }
 {
     let m = n - 1 - i;
     let p = a + i;
@@ -87,46 +87,46 @@ fn spread_of(n: usize, w: usize, c: &mut [u8], a: usize, z: &[u8], b: usize, i: 
     for v in 0..m {
         let d = v + 1;
         let k = f + v;
-        let g = d * w + p + d;
+        let g = d * span + p + d;
         c[p] ^= z[k];
         c[g] ^= z[k];
     }
 }
 
 // One column.
-fn spread_column(n: usize, w: usize, c: &mut [u8], a: usize, z: &[u8], b: usize)
-    requires { ⌜ (n ≤ 4) × (a + n ≤ w) × (w ≤ rowRoom) × (n * w ≤ length (now c)) × (b + pairs n ≤ length (now z)) ⌝ }
-    ensures { λ r. ⌜ now (c .exit) ≡ overPairs (spreadTurn w (now (z .entry)) a b) n (now (c .entry)) ⌝ }
+fn spread_column(n: usize, span: usize, c: &mut [u8], a: usize, z: &[u8], b: usize)
+    requires { ⌜ (n ≤ 4) × (a + n ≤ span) × (span ≤ rowRoom) × (n * span ≤ length (now c)) × (b + pairs n ≤ length (now z)) ⌝ }
+    ensures { λ r. ⌜ now (c .exit) ≡ overPairs (spreadTurn span (now (z .entry)) a b) n (now (c .entry)) ⌝ }
 {
     let mut at: usize = 0;
     for i in 0..n {
-        spread_of(n, w, c, a, z, b, i, at);
+        spread_of(n, span, c, a, z, b, i, at);
         at += n - 1 - i;
     }
 }
 
-fn spread(n: usize, np: usize, columns: usize, w: usize, c: &mut [u8], z: &[u8])
-    requires { ⌜ (n ≤ 4) × (np ≡ pairs n) × (columns * n ≤ w) × (w ≤ rowRoom) × (n * w ≤ length (now c)) × (columns * pairs n ≤ length (now z)) ⌝ }
-    ensures { λ r. ⌜ now (c .exit) ≡ spreadAll n columns w (now (z .entry)) (now (c .entry)) ⌝ }
+fn spread(n: usize, np: usize, columns: usize, span: usize, c: &mut [u8], z: &[u8])
+    requires { ⌜ (n ≤ 4) × (np ≡ pairs n) × (columns * n ≤ span) × (span ≤ rowRoom) × (n * span ≤ length (now c)) × (columns * pairs n ≤ length (now z)) ⌝ }
+    ensures { λ r. ⌜ now (c .exit) ≡ spreadAll n columns span (now (z .entry)) (now (c .entry)) ⌝ }
 {
     let mut a: usize = 0;
     let mut b: usize = 0;
     for u in 0..columns {
-        spread_column(n, w, c, a, z, b);
+        spread_column(n, span, c, a, z, b);
         a += n;
         b += np;
     }
 }
 
 // The byte y times the share that stands at g of m.
-fn term(width: usize, r: usize, m: &[u8], g: usize, y: u8) -> u8
-    requires { ⌜ (width ≤ 8) × (r ≤ 64) × (g < r) × (width * r ≤ length (now m)) ⌝ }
-    ensures { λ v. ⌜ v ≡ term (now (m .entry)) r width g y ⌝ }
+fn term(bits: usize, r: usize, m: &[u8], g: usize, y: u8) -> u8
+    requires { ⌜ (bits ≤ 8) × (r ≤ 64) × (g < r) × (bits * r ≤ length (now m)) ⌝ }
+    ensures { λ v. ⌜ v ≡ term (now (m .entry)) r bits g y ⌝ }
 {
     let mut v: u8 = 0;
     let mut h = y;
     let mut at: usize = g;
-    for t in 0..width {
+    for t in 0..bits {
         v ^= (h & 1) * m[at];
         h >>= 1;
         at += r;
@@ -136,81 +136,81 @@ fn term(width: usize, r: usize, m: &[u8], g: usize, y: u8) -> u8
 
 // Byte o of the row, which is byte q of its block.
 fn product_byte(
-    width: usize,
+    bits: usize,
     n: usize,
     r: usize,
-    w: usize,
+    span: usize,
     c: &mut [u8],
     m: &[u8],
     y: u8,
     o: usize,
     q: usize,
 )
-    requires { ⌜ (width ≤ 8) × (r ≤ 64) × (q + n < r) × (width * r ≤ length (now m)) × (n ≤ 4) × (o < w) × (w ≤ rowRoom) × (n * w ≤ length (now c)) ⌝ }
-    ensures { λ x. ⌜ now (c .exit) ≡ byteProducts width n r w (now (m .entry)) y o q (now (c .entry)) ⌝ }
+    requires { ⌜ (bits ≤ 8) × (r ≤ 64) × (q + n < r) × (bits * r ≤ length (now m)) × (n ≤ 4) × (o < span) × (span ≤ rowRoom) × (n * span ≤ length (now c)) ⌝ }
+    ensures { λ x. ⌜ now (c .exit) ≡ byteProducts bits n r span (now (m .entry)) y o q (now (c .entry)) ⌝ }
 {
     let mut at: usize = o;
     for d in 0..n {
         let g = q + n - d;
-        c[at] ^= term(width, r, m, g, y);
-        at += w;
+        c[at] ^= term(bits, r, m, g, y);
+        at += span;
     }
 }
 
 // The block of l bytes that begins at `at`.
 fn product_block(
-    width: usize,
+    bits: usize,
     n: usize,
     l: usize,
     r: usize,
-    w: usize,
+    span: usize,
     c: &mut [u8],
     b: &[u8],
     m: &[u8],
     at: usize,
 )
-    requires { ⌜ (width ≤ 8) × (r ≤ 64) × (l + n ≤ r) × (width * r ≤ length (now m)) × (n ≤ 4) × (at + l ≤ w) × (w ≤ rowRoom) × (n * w ≤ length (now c)) × (at + l ≤ length (now b)) ⌝ }
-    ensures { λ x. ⌜ now (c .exit) ≡ run (productTurn width n r w (now (b .entry)) (now (m .entry)) at) l (now (c .entry)) ⌝ }
+    requires { ⌜ (bits ≤ 8) × (r ≤ 64) × (l + n ≤ r) × (bits * r ≤ length (now m)) × (n ≤ 4) × (at + l ≤ span) × (span ≤ rowRoom) × (n * span ≤ length (now c)) × (at + l ≤ length (now b)) ⌝ }
+    ensures { λ x. ⌜ now (c .exit) ≡ run (productByteTurn bits n r span (now (b .entry)) (now (m .entry)) at) l (now (c .entry)) ⌝ }
 {
     for q in 0..l {
         let o = at + q;
-        product_byte(width, n, r, w, c, m, b[o], o, q);
+        product_byte(bits, n, r, span, c, m, b[o], o, q);
     }
 }
 
 fn products(
-    width: usize,
+    bits: usize,
     n: usize,
     l: usize,
     r: usize,
     blocks: usize,
-    w: usize,
+    span: usize,
     c: &mut [u8],
     b: &[u8],
     m: &[u8],
 )
-    requires { ⌜ (width ≤ 8) × (r ≤ 64) × (l + n ≤ r) × (width * r ≤ length (now m)) × (n ≤ 4) × (blocks * l ≤ w) × (w ≤ rowRoom) × (n * w ≤ length (now c)) × (blocks * l ≤ length (now b)) ⌝ }
-    ensures { λ x. ⌜ now (c .exit) ≡ allProducts width n l r blocks w (now (b .entry)) (now (m .entry)) (now (c .entry)) ⌝ }
+    requires { ⌜ (bits ≤ 8) × (r ≤ 64) × (l + n ≤ r) × (bits * r ≤ length (now m)) × (n ≤ 4) × (blocks * l ≤ span) × (span ≤ rowRoom) × (n * span ≤ length (now c)) × (blocks * l ≤ length (now b)) ⌝ }
+    ensures { λ x. ⌜ now (c .exit) ≡ allProducts bits n l r blocks span (now (b .entry)) (now (m .entry)) (now (c .entry)) ⌝ }
 {
     let mut at: usize = 0;
     for u in 0..blocks {
-        product_block(width, n, l, r, w, c, b, m, at);
+        product_block(bits, n, l, r, span, c, b, m, at);
         at += l;
     }
 }
 
 // Byte o, which is byte q of its block. What stands in row d and what stands d places before in row n - d join each other first: the draw
 // is in one of the two.
-fn gather_byte(n: usize, l: usize, w: usize, c: &[u8], k: &[u8], o: usize, q: usize) -> u8
-    requires { ⌜ (1 ≤ n) × (n ≤ 4) × (q < l) × (l ≤ 48) × (n * l ≤ length (now k)) × (n ≤ w) × (o < w) × (w ≤ rowRoom) × (n * w ≤ length (now c)) ⌝ }
-    ensures { λ r. ⌜ r ≡ gathered n l w (now (c .entry)) (now (k .entry)) o q ⌝ }
+fn gather_byte(n: usize, l: usize, span: usize, c: &[u8], k: &[u8], o: usize, q: usize) -> u8
+    requires { ⌜ (1 ≤ n) × (n ≤ 4) × (q < l) × (l ≤ 48) × (n * l ≤ length (now k)) × (n ≤ span) × (o < span) × (span ≤ rowRoom) × (n * span ≤ length (now c)) ⌝ }
+    ensures { λ r. ⌜ r ≡ gatheredByte n l span (now (c .entry)) (now (k .entry)) o q ⌝ }
 {
     let mut v = c[o];
     let e = n - 1;
     for i in 0..e {
         let d = e - i;
-        let g = d * w + o;
-        let h = (i + 1) * w + o - d;
+        let g = d * span + o;
+        let h = (i + 1) * span + o - d;
         let t = d * l + q;
         v ^= (c[g] ^ c[h]) & k[t];
     }
@@ -218,23 +218,23 @@ fn gather_byte(n: usize, l: usize, w: usize, c: &[u8], k: &[u8], o: usize, q: us
 }
 
 // The block of l bytes that begins at `at`.
-fn gather_block(n: usize, l: usize, w: usize, out: &mut [u8], c: &[u8], k: &[u8], at: usize)
-    requires { ⌜ (1 ≤ n) × (n ≤ 4) × (l ≤ 48) × (n * l ≤ length (now k)) × (n ≤ w) × (at + l ≤ w) × (w ≤ rowRoom) × (n * w ≤ length (now c)) × (w ≤ length (now out)) ⌝ }
-    ensures { λ r. ⌜ now (out .exit) ≡ run (blockTurn n l w (now (c .entry)) (now (k .entry)) at) l (now (out .entry)) ⌝ }
+fn gather_block(n: usize, l: usize, span: usize, out: &mut [u8], c: &[u8], k: &[u8], at: usize)
+    requires { ⌜ (1 ≤ n) × (n ≤ 4) × (l ≤ 48) × (n * l ≤ length (now k)) × (n ≤ span) × (at + l ≤ span) × (span ≤ rowRoom) × (n * span ≤ length (now c)) × (span ≤ length (now out)) ⌝ }
+    ensures { λ r. ⌜ now (out .exit) ≡ run (blockTurn n l span (now (c .entry)) (now (k .entry)) at) l (now (out .entry)) ⌝ }
 {
     for q in 0..l {
         let o = at + q;
-        out[o] = gather_byte(n, l, w, c, k, o, q);
+        out[o] = gather_byte(n, l, span, c, k, o, q);
     }
 }
 
-fn gather(n: usize, l: usize, blocks: usize, w: usize, out: &mut [u8], c: &[u8], k: &[u8])
-    requires { ⌜ (1 ≤ n) × (n ≤ 4) × (l ≤ 48) × (n * l ≤ length (now k)) × (n ≤ w) × (blocks * l ≤ w) × (w ≤ rowRoom) × (n * w ≤ length (now c)) × (w ≤ length (now out)) ⌝ }
-    ensures { λ r. ⌜ now (out .exit) ≡ gatherAll n l blocks w (now (c .entry)) (now (k .entry)) (now (out .entry)) ⌝ }
+fn gather(n: usize, l: usize, blocks: usize, span: usize, out: &mut [u8], c: &[u8], k: &[u8])
+    requires { ⌜ (1 ≤ n) × (n ≤ 4) × (l ≤ 48) × (n * l ≤ length (now k)) × (n ≤ span) × (blocks * l ≤ span) × (span ≤ rowRoom) × (n * span ≤ length (now c)) × (span ≤ length (now out)) ⌝ }
+    ensures { λ r. ⌜ now (out .exit) ≡ gatherAll n l blocks span (now (c .entry)) (now (k .entry)) (now (out .entry)) ⌝ }
 {
     let mut at: usize = 0;
     for u in 0..blocks {
-        gather_block(n, l, w, out, c, k, at);
+        gather_block(n, l, span, out, c, k, at);
         at += l;
     }
 }
@@ -249,15 +249,15 @@ fn product_16_2(columns: usize, row: &mut [u8], a: &[u8], mask: &[u8])
     let len = columns * 2;
     let blocks = (len + 15) / 16;
     let wide = (len + 47) / 48;
-    let w = wide * 48;
+    let span = wide * 48;
     let mut c = [0u8; WORK_ROOM_2];
     let mut m = [0u8; 128];
     let k = later::LATER_2;
-    spread(2, 1, columns, w, &mut c[..], mask);
+    spread(2, 1, columns, span, &mut c[..], mask);
     repeat(2, 16, &mut m[..], a);
     double_rows(4, 32, &mut m[..]);
-    products(4, 2, 16, 32, blocks, w, &mut c[..], row, &m[..]);
-    gather(2, 48, wide, w, row, &c[..], &k[..]);
+    products(4, 2, 16, 32, blocks, span, &mut c[..], row, &m[..]);
+    gather(2, 48, wide, span, row, &c[..], &k[..]);
 }
 
 fn product_256_2(columns: usize, row: &mut [u8], a: &[u8], mask: &[u8])
@@ -268,15 +268,15 @@ fn product_256_2(columns: usize, row: &mut [u8], a: &[u8], mask: &[u8])
     let len = columns * 2;
     let blocks = (len + 15) / 16;
     let wide = (len + 47) / 48;
-    let w = wide * 48;
+    let span = wide * 48;
     let mut c = [0u8; WORK_ROOM_2];
     let mut m = [0u8; 256];
     let k = later::LATER_2;
-    spread(2, 1, columns, w, &mut c[..], mask);
+    spread(2, 1, columns, span, &mut c[..], mask);
     repeat(2, 16, &mut m[..], a);
     double_rows(8, 32, &mut m[..]);
-    products(8, 2, 16, 32, blocks, w, &mut c[..], row, &m[..]);
-    gather(2, 48, wide, w, row, &c[..], &k[..]);
+    products(8, 2, 16, 32, blocks, span, &mut c[..], row, &m[..]);
+    gather(2, 48, wide, span, row, &c[..], &k[..]);
 }
 
 fn product_16_3(columns: usize, row: &mut [u8], a: &[u8], mask: &[u8])
@@ -287,15 +287,15 @@ fn product_16_3(columns: usize, row: &mut [u8], a: &[u8], mask: &[u8])
     let len = columns * 3;
     let blocks = (len + 47) / 48;
     let wide = (len + 47) / 48;
-    let w = wide * 48;
+    let span = wide * 48;
     let mut c = [0u8; WORK_ROOM_3];
     let mut m = [0u8; 256];
     let k = later::LATER_3;
-    spread(3, 3, columns, w, &mut c[..], mask);
+    spread(3, 3, columns, span, &mut c[..], mask);
     repeat(3, 21, &mut m[..], a);
     double_rows(4, 64, &mut m[..]);
-    products(4, 3, 48, 64, blocks, w, &mut c[..], row, &m[..]);
-    gather(3, 48, wide, w, row, &c[..], &k[..]);
+    products(4, 3, 48, 64, blocks, span, &mut c[..], row, &m[..]);
+    gather(3, 48, wide, span, row, &c[..], &k[..]);
 }
 
 fn product_256_3(columns: usize, row: &mut [u8], a: &[u8], mask: &[u8])
@@ -306,15 +306,15 @@ fn product_256_3(columns: usize, row: &mut [u8], a: &[u8], mask: &[u8])
     let len = columns * 3;
     let blocks = (len + 47) / 48;
     let wide = (len + 47) / 48;
-    let w = wide * 48;
+    let span = wide * 48;
     let mut c = [0u8; WORK_ROOM_3];
     let mut m = [0u8; 512];
     let k = later::LATER_3;
-    spread(3, 3, columns, w, &mut c[..], mask);
+    spread(3, 3, columns, span, &mut c[..], mask);
     repeat(3, 21, &mut m[..], a);
     double_rows(8, 64, &mut m[..]);
-    products(8, 3, 48, 64, blocks, w, &mut c[..], row, &m[..]);
-    gather(3, 48, wide, w, row, &c[..], &k[..]);
+    products(8, 3, 48, 64, blocks, span, &mut c[..], row, &m[..]);
+    gather(3, 48, wide, span, row, &c[..], &k[..]);
 }
 
 fn product_16_4(columns: usize, row: &mut [u8], a: &[u8], mask: &[u8])
@@ -325,15 +325,15 @@ fn product_16_4(columns: usize, row: &mut [u8], a: &[u8], mask: &[u8])
     let len = columns * 4;
     let blocks = (len + 15) / 16;
     let wide = (len + 15) / 16;
-    let w = wide * 16;
+    let span = wide * 16;
     let mut c = [0u8; WORK_ROOM_4];
     let mut m = [0u8; 128];
     let k = later::LATER_4;
-    spread(4, 6, columns, w, &mut c[..], mask);
+    spread(4, 6, columns, span, &mut c[..], mask);
     repeat(4, 8, &mut m[..], a);
     double_rows(4, 32, &mut m[..]);
-    products(4, 4, 16, 32, blocks, w, &mut c[..], row, &m[..]);
-    gather(4, 16, wide, w, row, &c[..], &k[..]);
+    products(4, 4, 16, 32, blocks, span, &mut c[..], row, &m[..]);
+    gather(4, 16, wide, span, row, &c[..], &k[..]);
 }
 
 fn product_256_4(columns: usize, row: &mut [u8], a: &[u8], mask: &[u8])
@@ -344,15 +344,15 @@ fn product_256_4(columns: usize, row: &mut [u8], a: &[u8], mask: &[u8])
     let len = columns * 4;
     let blocks = (len + 15) / 16;
     let wide = (len + 15) / 16;
-    let w = wide * 16;
+    let span = wide * 16;
     let mut c = [0u8; WORK_ROOM_4];
     let mut m = [0u8; 256];
     let k = later::LATER_4;
-    spread(4, 6, columns, w, &mut c[..], mask);
+    spread(4, 6, columns, span, &mut c[..], mask);
     repeat(4, 8, &mut m[..], a);
     double_rows(8, 32, &mut m[..]);
-    products(8, 4, 16, 32, blocks, w, &mut c[..], row, &m[..]);
-    gather(4, 16, wide, w, row, &c[..], &k[..]);
+    products(8, 4, 16, 32, blocks, span, &mut c[..], row, &m[..]);
+    gather(4, 16, wide, span, row, &c[..], &k[..]);
 }
 
 fn product_16(n: usize, columns: usize, row: &mut [u8], a: &[u8], mask: &[u8])
@@ -362,12 +362,10 @@ fn product_16(n: usize, columns: usize, row: &mut [u8], a: &[u8], mask: &[u8])
 {
     if n == 2 {
         product_16_2(columns, row, a, mask);
+    } else if n == 3 {
+        product_16_3(columns, row, a, mask);
     } else {
-        if n == 3 {
-            product_16_3(columns, row, a, mask);
-        } else {
-            product_16_4(columns, row, a, mask);
-        }
+        product_16_4(columns, row, a, mask);
     }
 }
 
@@ -378,12 +376,10 @@ fn product_256(n: usize, columns: usize, row: &mut [u8], a: &[u8], mask: &[u8])
 {
     if n == 2 {
         product_256_2(columns, row, a, mask);
+    } else if n == 3 {
+        product_256_3(columns, row, a, mask);
     } else {
-        if n == 3 {
-            product_256_3(columns, row, a, mask);
-        } else {
-            product_256_4(columns, row, a, mask);
-        }
+        product_256_4(columns, row, a, mask);
     }
 }
 

@@ -15,7 +15,7 @@ use verdict::Refusal;
 pub mod call;
 
 // An answer, or the place of a record, as a word and up to three numbers. Unused numbers are 0, so that two can be compared.
-pub struct Told {
+pub struct Words {
     pub word: u64,
     pub a: u64,
     pub b: u64,
@@ -53,11 +53,11 @@ pub const CLEAR: u64 = 23;
 
 pub const OPEN: u64 = 24;
 
-pub fn tell(word: u64, a: u64, b: u64, c: u64) -> Told {
-    Told { word, a, b, c }
+pub fn tell(word: u64, a: u64, b: u64, c: u64) -> Words {
+    Words { word, a, b, c }
 }
 
-pub fn same(t: Told, u: Told) -> bool {
+pub fn same(t: Words, u: Words) -> bool {
     t.word == u.word && t.a == u.a && t.b == u.b && t.c == u.c
 }
 
@@ -66,30 +66,30 @@ fn wide(x: u8) -> u64 {
 }
 
 // A refusal's number and detail, by 01's table.
-pub fn of_refusal(r: Refusal) -> Told {
+pub fn of_refusal(r: Refusal) -> Words {
     let l = r.report();
     tell(REFUSED, l.number, l.a, l.b)
 }
 
-fn of_counts(c: Counts) -> Told {
+fn of_counts(c: Counts) -> Words {
     tell(COUNTS, c.steps as u64, c.mask as u64, c.nonzero as u64)
 }
 
-pub fn of_start(s: Starting) -> Told {
+pub fn of_start(s: Starting) -> Words {
     match s {
         Starting::Fresh(_) => tell(FRESH, 0, 0, 0),
         Starting::Refused(r) => of_refusal(r),
     }
 }
 
-pub fn of_counting(c: Counting) -> Told {
+pub fn of_counting(c: Counting) -> Words {
     match c {
         Counting::Counted(c) => of_counts(c),
         Counting::Refused(r) => of_refusal(r),
     }
 }
 
-pub fn of_filling(f: Filling) -> Told {
+pub fn of_filling(f: Filling) -> Words {
     match f {
         Filling::Filled => tell(FILLED, 0, 0, 0),
         Filling::Refused(r) => of_refusal(r),
@@ -97,7 +97,7 @@ pub fn of_filling(f: Filling) -> Told {
 }
 
 // How a solve ended, without its counts.
-pub fn verdict(s: Solving) -> Told {
+pub fn verdict(s: Solving) -> Words {
     match s {
         Solving::Solved(_) => tell(SOLVED, 0, 0, 0),
         Solving::Stopped(j, _) => tell(STOPPED, j, 0, 0),
@@ -106,7 +106,7 @@ pub fn verdict(s: Solving) -> Told {
 }
 
 // The counts of a solve, solved or stopped.
-pub fn taken(s: Solving) -> Told {
+pub fn taken(s: Solving) -> Words {
     match s {
         Solving::Solved(c) => of_counts(c),
         Solving::Stopped(_, c) => of_counts(c),
@@ -114,7 +114,7 @@ pub fn taken(s: Solving) -> Told {
     }
 }
 
-pub fn of_stepping(s: Stepping) -> Told {
+pub fn of_stepping(s: Stepping) -> Words {
     match s {
         Stepping::Moved => tell(MOVED, 0, 0, 0),
         Stepping::Opened(j, x) => tell(OPENED, j, wide(x), 0),
@@ -124,7 +124,7 @@ pub fn of_stepping(s: Stepping) -> Told {
     }
 }
 
-fn of_step(s: Step) -> Told {
+fn of_step(s: Step) -> Words {
     match s {
         Step::Mix { j, k } => tell(MIX, j, k, 0),
         Step::Check(j) => tell(CHECK, j, 0, 0),
@@ -134,7 +134,7 @@ fn of_step(s: Step) -> Told {
     }
 }
 
-pub fn of_place(p: Place) -> Told {
+pub fn of_place(p: Place) -> Words {
     match p {
         Place::At(s) => of_step(s),
         Place::Stopped(j) => tell(STOPPED, j, 0, 0),
@@ -169,7 +169,7 @@ pub fn buffer(name: &[u8], s: &[u8]) {
 }
 
 // An answer.
-pub fn say(t: Told) {
+pub fn say(t: Words) {
     let word = t.word;
     match word {
         REFUSED => {
@@ -205,7 +205,7 @@ fn single(name: &[u8], j: u64) {
     text(b")");
 }
 
-pub fn say_place(t: Told) {
+pub fn say_place(t: Words) {
     let word = t.word;
     match word {
         MIX => pair(b"Mix(", t.a, t.b),

@@ -12,8 +12,8 @@ use Rattle.walk.specs.declared.Ending.{Ending}
 use Rattle.walk.specs.Act.{Held, held}
 use Rattle.walk.specs.Walk.{solved}
 use Rattle.walk.proofs.Counted.{solved-counters}
-use Rattle.meaning.proofs.Walked.{NoZero}
-use Rattle.meaning.proofs.Meant.{Lent, meant}
+use Rattle.meaning.specs.Claims.{NoZero, Given}
+use Rattle.meaning.proofs.Meant.{meant}
 use Rattle.verdict.specs.Told.{Told, passed, refused}
 use Rattle.solver.specs.Refusals.{solveOrder}
 use Rattle.verdict.specs.Calls.{Says, Outcome, after, call}
@@ -28,7 +28,7 @@ module _ (o : Order) (t x mask nonzero : List ℕ) where
       nine-says (o .field) (take (fullNonzero o) nonzero) (d .nonzeros) k (rw (length-take-le (fullNonzero o) nonzero (d .others)) h)
       (ap (draw (fieldOf (o .field))) (getD-take (fullNonzero o) nonzero k 0 h) ∙ e)
 
-  lending : Solvable o t (length x) (length mask) nonzero → Lent o nonzero t x
+  lending : Solvable o t (length x) (length mask) nonzero → Given o nonzero t x
   lending d = record { sizes = d .sizes; table = d .lent .whole; solution = d .lent .room; nonzero = drawn d }
 
   told : (w : Told) → solveOrder o t (length x) (length mask) nonzero ≡ w

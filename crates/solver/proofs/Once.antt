@@ -24,7 +24,7 @@ use Rattle.solver.specs.declared.Wanting.{Wanting}
 use Rattle.solver.specs.declared.Wanting.the-variants as Want
 use Rattle.verdict.specs.Calls.{Says, refuses, gives, Nothing}
 use Rattle.verdict.proofs.Once.{back, back-paper, Once, only}
-use Rattle.solver.specs.Calls.{startSays, countSays, Full, filled, fillSays, Stride, moved, opening, stopped, done, stepSays, Lent, solveSays, wantSays}
+use Rattle.solver.specs.Calls.{startSays, countSays, Full, filled, fillSays, Stride, moved, found, stopped, done, stepSays, Lent, solveSays, wantSays}
 
 startBack : Says Progress → Starting
 startBack (refuses l) = Start.Refused (back l)
@@ -67,7 +67,7 @@ solve-back (Solve.Refused r) = ap Solve.Refused (back-paper r)
 stepBack : Says Stride → Stepping
 stepBack (refuses l) = Stepped.Refused (back l)
 stepBack (gives moved) = Stepped.Moved
-stepBack (gives (opening j x)) = Stepped.Opened j x
+stepBack (gives (found j x)) = Stepped.Opened j x
 stepBack (gives (stopped j)) = Stepped.Stopped j
 stepBack (gives (done x)) = Stepped.Done x
 

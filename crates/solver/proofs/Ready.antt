@@ -13,8 +13,8 @@ use lib.ListN.{length, take}
 use borrow.Author.Tests.{not-false, eq-eqb, ne-eqb}
 use Rattle.field.specs.Field.{fieldOf}
 use Rattle.sharing.specs.Rules.{blindedValue}
-use Rattle.sharing.specs.Bounds.{mostRows, mostEntries}
-use Rattle.table.specs.Layout.{Place as Cell, tableBytes, entry}
+use Rattle.sharing.specs.Bounds.{mostRows, mostWidth, mostEntries}
+use Rattle.table.specs.Layout.{Inside, tableBytes, entry}
 use Rattle.table.specs.Costs.{scaleNonzero}
 use Rattle.table.specs.Values.{value}
 use Rattle.table.proofs.Values.{pivot-zero, zero-pivot}
@@ -23,7 +23,7 @@ use Rattle.course.specs.declared.Step.the-variants.{Mix, Check, Scale, Clear, O
 use Rattle.course.specs.declared.Place.{Place}
 use Rattle.course.specs.declared.Place.the-variants.{At, Stopped, Done}
 use Rattle.course.specs.declared.Order.{Order}
-use Rattle.course.specs.StepList.{Sizes, inList, costOf, maskCost, nonzeroCost, Pivot, opensOf, fullMask, fullNonzero}
+use Rattle.course.specs.StepList.{Sizes, inList, costOf, maskCost, nonzeroCost, Pivot, revealedBy, fullMask, fullNonzero}
 use Rattle.course.proofs.Within.{within}
 use Rattle.walk.proofs.Acted.{pivot}
 use Rattle.verdict.specs.Told.{passed, _or_}
@@ -51,7 +51,7 @@ whole-entries o = refl
 
 pub entries-small : (m : ℕ) → m ≤ mostRows → entries m ≤ mostEntries
 unfolding entries
-entries-small m h = mul-le-mul {n₁ = m} {m₁ = m + 1} {n₂ = mostRows} {m₂ = mostRows + 1} h (omega arith)
+entries-small m h = mul-le-mul {n₁ = m} {m₁ = m + 1} {n₂ = mostRows} {m₂ = mostWidth} h (omega arith)
 
 pub sharing-small : (k n : ℕ) → k ≤ mostEntries → n ≤ 4 → k * n ≤ mostEntries * 4
 sharing-small k n h g = mul-le-mul {n₁ = k} {m₁ = n} {n₂ = mostEntries} {m₂ = 4} h g
@@ -205,7 +205,7 @@ not-of-four a b c d s = ⊎-elim a (⊎-elim b (⊎-elim c d)) s
 
 -- a place that is no Scale has no pivot
 pub no-pivot : (o : Order) (place : Place) (t : List ℕ) → ((j : ℕ) → place ≡ At (Scale j) → ⊥) → passed ≡ no12 o place t
-unfolding no12 opensOf zeroPivot
+unfolding no12 revealedBy zeroPivot
 no-pivot o (At (Mix j k)) t n = refl
 no-pivot o (At (Check j)) t n = refl
 no-pivot o (At (Scale j)) t n = absurd (n j refl)
@@ -215,7 +215,7 @@ no-pivot o (Stopped j) t n = refl
 no-pivot o Done t n = refl
 
 -- the pivot's place of a Scale
-pub pivot-cell : (o : Order) (j : ℕ) → inList (o .size) (Scale j) ≡ true → Cell (o .size) (o .size + 1) j j
+pub pivot-cell : (o : Order) (j : ℕ) → inList (o .size) (Scale j) ≡ true → Inside (o .size) (o .size + 1) j j
 pivot-cell o j h = let w = within (o .size) (Scale j) h in pivot (w .0) (w .1)
 
 -- what an Inversion opens tells whether the pivot of a Scale is 0

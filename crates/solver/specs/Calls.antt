@@ -11,7 +11,7 @@ use Rattle.course.specs.declared.Order.{Order}
 use Rattle.course.specs.declared.Progress.{Progress}
 use Rattle.course.specs.declared.Counts.{Counts}
 use Rattle.course.specs.declared.Draws.{Draws}
-use Rattle.course.specs.StepList.{draws, Opens, None, Flag, Pivot, Unknown, opensOf, stepList, sums}
+use Rattle.course.specs.StepList.{draws, Revealed, None, Flag, Pivot, Unknown, revealedBy, stepList, sums}
 use Rattle.course.specs.Next.{nextOf, startOf}
 use Rattle.walk.specs.declared.Ending.{Ending}
 use Rattle.walk.specs.declared.Ending.the-variants as E
@@ -103,23 +103,23 @@ Taken o (gives e) = Counters o e
 
 pub data Stride : Type 0 where
   moved : Stride
-  opening : ℕ → ℕ → Stride
+  found : ℕ → ℕ → Stride
   stopped : ℕ → Stride
   done : ℕ → Stride
 
 abbrev pub stepSays : Stepping → Says Stride
 stepSays Stepped.Moved = gives moved
-stepSays (Stepped.Opened j x) = gives (opening j x)
+stepSays (Stepped.Opened j x) = gives (found j x)
 stepSays (Stepped.Stopped j) = gives (stopped j)
 stepSays (Stepped.Done x) = gives (done x)
 stepSays (Stepped.Refused r) = refuses (paper r)
 
 -- what a step tells that opened x
-unfoldable pub tells : Opens → ℕ → Stride
+unfoldable pub tells : Revealed → ℕ → Stride
 tells None x = moved
 tells (Flag j) x = pick (eqb x 1) (stopped j) moved
 tells (Pivot j) x = moved
-tells (Unknown j) x = pick (eqb j 1) (done x) (opening j x)
+tells (Unknown j) x = pick (eqb j 1) (done x) (found j x)
 
 -- the record, beside the table and the solution
 pub record Lent : Type 0 where
@@ -136,7 +136,7 @@ orderOf p = order (p .field) (p .shares) (p .size)
 unfoldable pub stepDoes : Progress → Place → Held → List ℕ → List ℕ → Outcome Stride Lent
 stepDoes p (P.At s) h mask nonzero =
     let x = opened (orderOf p) s mask h in
-    after (gives (tells (opensOf s) x)) (lent (nextOf p x) (acted (orderOf p) s mask nonzero h))
+    after (gives (tells (revealedBy s) x)) (lent (nextOf p x) (acted (orderOf p) s mask nonzero h))
 stepDoes p (P.Stopped j) h mask nonzero = after (gives moved) (lent p h)
 stepDoes p P.Done h mask nonzero = after (gives moved) (lent p h)
 

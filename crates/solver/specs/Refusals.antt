@@ -12,7 +12,7 @@ use Rattle.course.specs.declared.Draws.{Draws}
 use Rattle.course.specs.declared.Place.{Place}
 use Rattle.course.specs.declared.Place.the-variants.{At, Stopped, Done}
 use Rattle.course.specs.declared.Order.{Order}
-use Rattle.course.specs.StepList.{inList, draws, costOf, Opens, None, Flag, Pivot, Unknown, opensOf, fullMask, fullNonzero}
+use Rattle.course.specs.StepList.{inList, draws, costOf, Revealed, None, Flag, Pivot, Unknown, revealedBy, fullMask, fullNonzero}
 use Rattle.verdict.specs.Told.{Told, refuse, _or_}
 use Rattle.verdict.specs.Refusals.{outside, no4, no5, no6, no7, no8, no7step, no8step, no9, numbers, buffers}
 
@@ -53,20 +53,20 @@ abbrev pub nonzeroAt : Order → Place → ℕ
 nonzeroAt o place = costAt o place .nonzero
 
 -- what the step of a place opens; an ended one opens nothing
-abbrev pub openingAt : Place → Opens
-openingAt (At s) = opensOf s
-openingAt (Stopped j) = None
-openingAt Done = None
+abbrev pub revealedAt : Place → Revealed
+revealedAt (At s) = revealedBy s
+revealedAt (Stopped j) = None
+revealedAt Done = None
 
 -- Scale(j), which opens its pivot, where the value of T[j,j] is 0
-unfoldable pub zeroPivot : Order → Opens → List ℕ → Bool
+unfoldable pub zeroPivot : Order → Revealed → List ℕ → Bool
 zeroPivot o None t = false
 zeroPivot o (Flag j) t = false
 zeroPivot o (Pivot j) t = eqb (sum (fieldOf (o .field)) (entry (o .shares) (o .size + 1) j j t)) 0
 zeroPivot o (Unknown j) t = false
 
 -- the j of what is opened
-unfoldable pub columnOf : Opens → ℕ
+unfoldable pub columnOf : Revealed → ℕ
 columnOf None = 0
 columnOf (Flag j) = j
 columnOf (Pivot j) = j
@@ -84,7 +84,7 @@ no11 place = refuse 11 (ended place) (0 ∷ [])
 
 -- Scale where the pivot's value is 0: j
 unfoldable pub no12 : Order → Place → List ℕ → Told
-no12 o place t = refuse 12 (zeroPivot o (openingAt place) t) (columnOf (openingAt place) ∷ [])
+no12 o place t = refuse 12 (zeroPivot o (revealedAt place) t) (columnOf (revealedAt place) ∷ [])
 
 -- ---- the orders. Parentheses mark stages: what stands in one is worked out only once the stage before has passed
 

@@ -4,7 +4,7 @@
 mod checks;
 
 ghost use mathlib.Core.Path.{_≡_};
-ghost use Rattle.course.specs.StepList.{opensOf};
+ghost use Rattle.course.specs.StepList.{revealedBy};
 ghost use Rattle.walk.specs.Act.{held};
 ghost use Rattle.verdict.specs.Calls.{after, gives};
 ghost use Rattle.solver.specs.Calls.{order, startSays, startCall, countSays, countsCall, fillSays, dealCall, gatherCall, solveSays, solveCall, Tells, Taken, stepSays, stepCall, tells, lent, wantSays, wantedCall};
@@ -187,7 +187,7 @@ pub fn solve(
 
 // What a step tells that opened x.
 fn answer(s: Step, x: u8) -> Stepping
-    ensures { λ r. ⌜ stepSays r ≡ gives (tells (opensOf s) x) ⌝ }
+    ensures { λ r. ⌜ stepSays r ≡ gives (tells (revealedBy s) x) ⌝ }
 {
     if let Step::Check(j) = s {
         if x == 1 {

@@ -9,7 +9,7 @@ use native.Mathlib.Omega.{arith}
 use native.Mathlib.Decide.{ℕ-discrete, decLt}
 use native.Mathlib.Nat.{suc-mul, add-mul, one-mul, mul-le-mul-right}
 use lib.ListN.{length}
-use Rattle.table.specs.Layout.{cell, tableBytes, part, put, entry, columnsFrom, rowFrom, putRow, Place}
+use Rattle.table.specs.Layout.{cell, tableBytes, part, put, entry, columnsFrom, rowFrom, putRow, Inside}
 use Rattle.table.proofs.Parts.{part-length, part-part, part-inside, part-same, part-before, part-behind, put-length}
 
 -- column u of several
@@ -23,12 +23,12 @@ cell-next n w r c u h =
     let e : (r - 1) * w + (c + u - 1) ≡ (r - 1) * w + (c - 1) + u = omega arith in rw (e, add-mul ((r - 1) * w + (c - 1)) u n)
 
 -- a place of the same row
-pub in-row : {rows w r c : ℕ} → Place rows w r c → (d : ℕ) → 1 ≤ d → d ≤ w → Place rows w r d
+pub in-row : {rows w r c : ℕ} → Inside rows w r c → (d : ℕ) → 1 ≤ d → d ≤ w → Inside rows w r d
 in-row P d h k =
     record { row-low = P .row-low; row-high = P .row-high; column-low = h; column-high = k }
 
 -- some columns of a row lie within the table
-pub columns-in : (n : ℕ) {rows w r j : ℕ} → Place rows w r j → (columns : ℕ) → j + columns ≤ w + 1
+pub columns-in : (n : ℕ) {rows w r j : ℕ} → Inside rows w r j → (columns : ℕ) → j + columns ≤ w + 1
     → cell n w r j + columns * n ≤ tableBytes n rows w
 unfolding cell tableBytes
 columns-in n {rows} {w} {r} {j} P columns h =
@@ -37,14 +37,14 @@ columns-in n {rows} {w} {r} {j} P columns h =
     let all : (x + columns) * n ≤ rows * w * n = mul-le-mul-right n (omega (arith, suc-mul (r - 1) w)) in
     omega (arith, add-mul x columns n)
 
-pub row-in : (n : ℕ) {rows w r j : ℕ} → Place rows w r j → cell n w r j + columnsFrom w j * n ≤ tableBytes n rows w
+pub row-in : (n : ℕ) {rows w r j : ℕ} → Inside rows w r j → cell n w r j + columnsFrom w j * n ≤ tableBytes n rows w
 row-in n {w = w} {j = j} P = columns-in n P (columnsFrom w j) (omega arith)
 
-pub cell-in : (n : ℕ) {rows w r c : ℕ} → Place rows w r c → cell n w r c + n ≤ tableBytes n rows w
+pub cell-in : (n : ℕ) {rows w r c : ℕ} → Inside rows w r c → cell n w r c + n ≤ tableBytes n rows w
 cell-in n P = omega (arith, columns-in n P 1 (omega arith), one-mul n)
 
 -- some columns of a row stand before every later column of it and before every later row
-columns-order : (n : ℕ) {rows w r j s d : ℕ} → Place rows w r j → Place rows w s d → (columns : ℕ) → j + columns ≤ w + 1
+columns-order : (n : ℕ) {rows w r j s d : ℕ} → Inside rows w r j → Inside rows w s d → (columns : ℕ) → j + columns ≤ w + 1
     → (r < s) ⊎ ((s ≡ r) × (j + columns ≤ d)) → cell n w r j + columns * n ≤ cell n w s d
 unfolding cell
 columns-order n {w = w} {r = r} {j = j} {s = s} {d = d} P Q columns h o =
@@ -59,21 +59,21 @@ columns-order n {w = w} {r = r} {j = j} {s = s} {d = d} P Q columns h o =
     omega (arith, mul-le-mul-right n le, add-mul x columns n)
 
 -- two rows do not meet
-pub row-order : (n : ℕ) {rows w r s j : ℕ} → Place rows w r j → Place rows w s j → r < s
+pub row-order : (n : ℕ) {rows w r s j : ℕ} → Inside rows w r j → Inside rows w s j → r < s
     → cell n w r j + columnsFrom w j * n ≤ cell n w s j
 row-order n {w = w} {j = j} P Q h =
     columns-order n P Q (columnsFrom w j) (omega arith) (inl h)
 
 module _ (n rows w : ℕ) (t : List ℕ) (lt : length t ≡ tableBytes n rows w) where
-  pub entry-length : {r c : ℕ} → Place rows w r c → length (entry n w r c t) ≡ n
+  pub entry-length : {r c : ℕ} → Inside rows w r c → length (entry n w r c t) ≡ n
   entry-length {r} {c} P = part-length n (cell n w r c) t (omega (arith, cell-in n P))
 
-  pub rowFrom-length : {r j : ℕ} → Place rows w r j → length (rowFrom n w r j t) ≡ columnsFrom w j * n
+  pub rowFrom-length : {r j : ℕ} → Inside rows w r j → length (rowFrom n w r j t) ≡ columnsFrom w j * n
   rowFrom-length {r} {j} P =
       part-length (columnsFrom w j * n) (cell n w r j) t (omega (arith, row-in n P))
 
   -- a column of a row
-  pub entry-row : {r j : ℕ} → Place rows w r j → (u : ℕ) → u < columnsFrom w j
+  pub entry-row : {r j : ℕ} → Inside rows w r j → (u : ℕ) → u < columnsFrom w j
       → part n (u * n) (rowFrom n w r j t) ≡ entry n w r (j + u) t
   entry-row {r} {j} P u h =
       part-part n (u * n) (columnsFrom w j * n) (cell n w r j) t (column-in n h)
@@ -81,14 +81,14 @@ module _ (n rows w : ℕ) (t : List ℕ) (lt : length t ≡ tableBytes n rows w)
 
   -- ---- after some columns of row r were put
 
-  module _ {r j : ℕ} (P : Place rows w r j) (columns : ℕ) (h : j + columns ≤ w + 1) (x : List ℕ) (lx : length x ≡ columns * n) where
+  module _ {r j : ℕ} (P : Inside rows w r j) (columns : ℕ) (h : j + columns ≤ w + 1) (x : List ℕ) (lx : length x ≡ columns * n) where
     fits : cell n w r j + columns * n ≤ length t
     fits = omega (arith, columns-in n P columns h)
 
     columns-length : length (put (columns * n) (cell n w r j) x t) ≡ tableBytes n rows w
     columns-length = put-length (columns * n) (cell n w r j) x t lx fits ∙ lt
 
-    columns-other : {s d : ℕ} → Place rows w s d → (s ≡ r → (d < j) ⊎ (j + columns ≤ d))
+    columns-other : {s d : ℕ} → Inside rows w s d → (s ≡ r → (d < j) ⊎ (j + columns ≤ d))
         → entry n w s d (put (columns * n) (cell n w r j) x t) ≡ entry n w s d t
     columns-other {s} {d} Q o = elim (decLt r s) [
       | yes l ↦ behind (inl l)
@@ -108,7 +108,7 @@ module _ (n rows w : ℕ) (t : List ℕ) (lt : length t ≡ tableBytes n rows w)
             (omega (arith, columns-order n Q P 1 (omega arith) a, one-mul n))
 
   -- one entry was put
-  module _ {r c : ℕ} (P : Place rows w r c) (x : List ℕ) (lx : length x ≡ n) where
+  module _ {r c : ℕ} (P : Inside rows w r c) (x : List ℕ) (lx : length x ≡ n) where
     one : length x ≡ 1 * n
     one = lx ∙ sym (one-mul n)
 
@@ -121,7 +121,7 @@ module _ (n rows w : ℕ) (t : List ℕ) (lt : length t ≡ tableBytes n rows w)
     pub put-entry-same : entry n w r c (put n (cell n w r c) x t) ≡ x
     put-entry-same = part-same n (cell n w r c) x t lx (omega (arith, cell-in n P))
 
-    pub put-entry-other : {s d : ℕ} → Place rows w s d → (s ≡ r → d ≡ c → ⊥) → entry n w s d (put n (cell n w r c) x t) ≡ entry n w s d t
+    pub put-entry-other : {s d : ℕ} → Inside rows w s d → (s ≡ r → d ≡ c → ⊥) → entry n w s d (put n (cell n w r c) x t) ≡ entry n w s d t
     put-entry-other {s} {d} Q ne =
         ap (entry n w s d) as-one ∙ columns-other P 1 (omega arith) x one Q (λ e. side e)
       where
@@ -135,7 +135,7 @@ module _ (n rows w : ℕ) (t : List ℕ) (lt : length t ≡ tableBytes n rows w)
         ]
 
   -- row r from column j on was put
-  module _ {r j : ℕ} (P : Place rows w r j) (row : List ℕ) (lr : length row ≡ columnsFrom w j * n) where
+  module _ {r j : ℕ} (P : Inside rows w r j) (row : List ℕ) (lr : length row ≡ columnsFrom w j * n) where
     pub putRow-length : length (putRow n w r j row t) ≡ tableBytes n rows w
     putRow-length = columns-length P (columnsFrom w j) (omega arith) row lr
 
@@ -144,5 +144,5 @@ module _ (n rows w : ℕ) (t : List ℕ) (lt : length t ≡ tableBytes n rows w)
         ap (λ (p : ℕ). part n p (putRow n w r j row t)) (cell-next n w r j u (P .column-low))
         ∙ part-inside (columnsFrom w j * n) (cell n w r j) row t lr (omega (arith, row-in n P)) n (u * n) (column-in n h)
 
-    pub putRow-other : {s d : ℕ} → Place rows w s d → (s ≡ r → d < j) → entry n w s d (putRow n w r j row t) ≡ entry n w s d t
+    pub putRow-other : {s d : ℕ} → Inside rows w s d → (s ≡ r → d < j) → entry n w s d (putRow n w r j row t) ≡ entry n w s d t
     putRow-other Q o = columns-other P (columnsFrom w j) (omega arith) row lr Q (λ e. inl (o e))

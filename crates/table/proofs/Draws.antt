@@ -17,8 +17,8 @@ use Rattle.sharing.proofs.Draws.{same-fewer, same-drop, same-turn, refresh-draw
 use Rattle.flag.proofs.Draws.{zeroFlag-draws}
 use Rattle.flag.proofs.Lengths.{zeroFlag-length}
 use Rattle.flag.specs.Flag.{flagDraws, zeroFlag}
-use Rattle.table.specs.Layout.{tableBytes, part, put, entry, columnsFrom, rowFrom, putRow, Place}
-use Rattle.table.specs.Steps.{columnTurn, overColumns, signed, joinTurn, joinRow, joinRows, mix, check, scaleTurn, scaleRow, factorTurn, scaleAll, scale, clear, opens}
+use Rattle.table.specs.Layout.{tableBytes, part, put, entry, columnsFrom, rowFrom, putRow, Inside}
+use Rattle.table.specs.Steps.{columnTurn, overColumns, signed, joinTurn, joinRow, joinRows, mix, check, scaleTurn, scaleRow, factorTurn, scaleAll, scale, clear, unknownAt}
 use Rattle.table.specs.Costs.{mixCost, checkCost, scaleCost, scaleNonzero, clearCost, openCost}
 use Rattle.table.proofs.Parts.{part-most}
 use Rattle.table.proofs.Cells.{entry-length}
@@ -81,7 +81,7 @@ unfolding joinRows
 joinRows-draws F minus n w a b j factor t lf d =
     ap (λ (row : List ℕ). putRow n w a j row t) (joinRow-draws F n _ minus factor _ _ lf d)
 
-module _ (f n rows w : ℕ) (t : List ℕ) (lt : length t ≡ tableBytes n rows w) {r j : ℕ} (P : Place rows w r j) where
+module _ (f n rows w : ℕ) (t : List ℕ) (lt : length t ≡ tableBytes n rows w) {r j : ℕ} (P : Inside rows w r j) where
   abbrev F : Ops
   F = fieldOf f
 
@@ -130,8 +130,8 @@ module _ (f n rows w : ℕ) (t : List ℕ) (lt : length t ≡ tableBytes n rows 
     unfolding clear clearCost
     clear-draws k d = joinRows-draws F true n w r k j _ t pivot-length d
 
-pub opens-draws : (f n rows w : ℕ) (t : List ℕ) → length t ≡ tableBytes n rows w → {r : ℕ} → Place rows w r w → {ds es : List ℕ}
-    → SameDraws (fieldOf f) (openCost n) ds es → opens f n w r ds t ≡ opens f n w r es t
-unfolding opens openCost
+pub opens-draws : (f n rows w : ℕ) (t : List ℕ) → length t ≡ tableBytes n rows w → {r : ℕ} → Inside rows w r w → {ds es : List ℕ}
+    → SameDraws (fieldOf f) (openCost n) ds es → unknownAt f n w r ds t ≡ unknownAt f n w r es t
+unfolding unknownAt openCost
 opens-draws f n rows w t lt {r} P d =
     opening-draws (fieldOf f) (entry n w r w t) (rw (entry-length n rows w t lt P) d)

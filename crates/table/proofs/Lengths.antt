@@ -11,7 +11,7 @@ use Rattle.sharing.specs.Rules.{scaled}
 use Rattle.sharing.specs.Lists.{joined}
 use Rattle.sharing.proofs.Pairs.{run-holds}
 use Rattle.sharing.proofs.Lengths.{joined-length, scaled-length, refresh-length}
-use Rattle.table.specs.Layout.{tableBytes, entry, rowFrom, Place}
+use Rattle.table.specs.Layout.{tableBytes, entry, rowFrom, Inside}
 use Rattle.table.specs.Steps.{joinTurn, joinRow, joinRows, mix, scaleTurn, scaleRow, factorTurn, scaleAll, scale, clear, liftTurn, lift}
 use Rattle.table.proofs.Cells.{entry-length, rowFrom-length, put-entry-length, putRow-length}
 use Rattle.table.proofs.Columns.{Keeps, overColumns-length}
@@ -49,42 +49,42 @@ module _ (F : Ops) (n : ℕ) where
 -- ---- the table
 
 -- the rows above row r, numbered from 0, in the last column
-pub above : {rows w r j : ℕ} → Place rows w r j → (i : ℕ) → i < r - 1 → Place rows w (i + 1) w
+pub above : {rows w r j : ℕ} → Inside rows w r j → (i : ℕ) → i < r - 1 → Inside rows w (i + 1) w
 above P i h =
     record { row-low = omega arith; row-high = omega arith; column-low = omega arith; column-high = omega arith }
 
 module _ (n rows w : ℕ) (t : List ℕ) (lt : length t ≡ tableBytes n rows w) where
-  pub joinRows-length : (F : Ops) (minus : Bool) {a j : ℕ} → Place rows w a j → (b : ℕ) (factor ds : List ℕ)
+  pub joinRows-length : (F : Ops) (minus : Bool) {a j : ℕ} → Inside rows w a j → (b : ℕ) (factor ds : List ℕ)
       → length (joinRows F minus n w a b j factor ds t) ≡ tableBytes n rows w
   unfolding joinRows
   joinRows-length F minus {a} {j} P b factor ds =
       putRow-length n rows w t lt P _ (joinRow-length F n _ _ (rowFrom-length n rows w t lt P) minus ds factor (rowFrom n w b j t))
 
-  pub mix-length : (f : ℕ) {r j : ℕ} → Place rows w r j → (k : ℕ) (ds : List ℕ) → length (mix f n w r j k ds t) ≡ tableBytes n rows w
+  pub mix-length : (f : ℕ) {r j : ℕ} → Inside rows w r j → (k : ℕ) (ds : List ℕ) → length (mix f n w r j k ds t) ≡ tableBytes n rows w
   unfolding mix
   mix-length f P k ds = joinRows-length (fieldOf f) false P k _ _
 
-  pub clear-length : (f : ℕ) {k j : ℕ} → Place rows w k j → (r : ℕ) (ds : List ℕ) → length (clear f n w r j k ds t) ≡ tableBytes n rows w
+  pub clear-length : (f : ℕ) {k j : ℕ} → Inside rows w k j → (r : ℕ) (ds : List ℕ) → length (clear f n w r j k ds t) ≡ tableBytes n rows w
   unfolding clear
   clear-length f P r ds = joinRows-length (fieldOf f) true P r _ ds
 
-  pub scale-length : (f : ℕ) {r j : ℕ} → Place rows w r j → (nz ds : List ℕ) → length (scale f n w r j nz ds t) ≡ tableBytes n rows w
+  pub scale-length : (f : ℕ) {r j : ℕ} → Inside rows w r j → (nz ds : List ℕ) → length (scale f n w r j nz ds t) ≡ tableBytes n rows w
   unfolding scale
   scale-length f P nz ds =
       putRow-length n rows w t lt P _ (scaleAll-length (fieldOf f) n _ _ (rowFrom-length n rows w t lt P) _ _)
 
   -- what a turn of the lift puts has the shares of an entry
-  pub lifted-length : (F : Ops) {s : ℕ} → Place rows w s w → (x : ℕ) (v : List ℕ)
+  pub lifted-length : (F : Ops) {s : ℕ} → Inside rows w s w → (x : ℕ) (v : List ℕ)
       → length (joined (sub F) (entry n w s w t) (scaled F x v)) ≡ n
   lifted-length F {s} Q x v = joined-length _ (entry n w s w t) _ ∙ entry-length n rows w t lt Q
 
-  pub liftTurn-length : (F : Ops) {r j : ℕ} → Place rows w r j → (x i : ℕ) → i < r - 1
+  pub liftTurn-length : (F : Ops) {r j : ℕ} → Inside rows w r j → (x i : ℕ) → i < r - 1
       → length (liftTurn F n w j x i t) ≡ tableBytes n rows w
   unfolding liftTurn
   liftTurn-length F {j = j} P x i h =
       put-entry-length n rows w t lt (above P i h) _ (lifted-length F (above P i h) x (entry n w (i + 1) j t))
 
-pub lift-length : (n rows w : ℕ) (t : List ℕ) → length t ≡ tableBytes n rows w → (f : ℕ) {r j : ℕ} → Place rows w r j → (x : ℕ)
+pub lift-length : (n rows w : ℕ) (t : List ℕ) → length t ≡ tableBytes n rows w → (f : ℕ) {r j : ℕ} → Inside rows w r j → (x : ℕ)
     → length (lift f n w r j x t) ≡ tableBytes n rows w
 unfolding lift
 lift-length n rows w t lt f {r} {j} P x =

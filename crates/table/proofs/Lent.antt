@@ -11,7 +11,7 @@ use Rattle.sharing.specs.Lists.{joined}
 use Rattle.sharing.proofs.Loops.{run-done, rest}
 use Rattle.sharing.proofs.Each.{each}
 use Rattle.sharing.specs.Bounds.{mostWidth}
-use Rattle.table.specs.Layout.{columnsFrom, Sizes, Place}
+use Rattle.table.specs.Layout.{columnsFrom, Bounded, Inside}
 use Rattle.table.proofs.Parts.{part-lent, part-length}
 
 -- ---- what is lent
@@ -25,11 +25,11 @@ pub rest-room : (d k : ℕ) (ds : List ℕ) → d + k ≤ length ds → k ≤ le
 rest-room d k ds h = rw (rest d ds, length-drop d ds) (omega arith)
 
 -- how many columns a row has from some place on
-pub some-columns : {n rows w r j : ℕ} → Sizes n rows w → Place rows w r j → (1 ≤ columnsFrom w j) × (columnsFrom w j ≤ mostWidth)
+pub some-columns : {n rows w r j : ℕ} → Bounded n rows w → Inside rows w r j → (1 ≤ columnsFrom w j) × (columnsFrom w j ≤ mostWidth)
 some-columns S P = (omega arith, omega arith)
 
 -- a row fits the array that it is copied to
-pub row-small : {n rows w r j : ℕ} → Sizes n rows w → Place rows w r j → columnsFrom w j * n ≤ mostWidth * 4
+pub row-small : {n rows w r j : ℕ} → Bounded n rows w → Inside rows w r j → columnsFrom w j * n ≤ mostWidth * 4
 row-small {n} {w = w} {j = j} S P = mul-le-mul {n₁ = columnsFrom w j} {m₁ = n} {n₂ = mostWidth} {m₂ = 4} (omega arith) (omega arith)
 
 -- ---- `for i in 0..s.len() { s[i] = op(s[i], v[i]); }`

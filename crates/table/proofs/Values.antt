@@ -22,8 +22,8 @@ use Rattle.flag.proofs.Flag.{sum-zeroFlag}
 use Rattle.sharing.proofs.Inverting.{blinds, productAll-snoc, blindedValue-is, blindedValue-nonzero, factors-inverse}
 use Rattle.flag.proofs.Lengths.{zeroFlag-length}
 use Rattle.flag.specs.Flag.{zeroFlag, flagOf}
-use Rattle.table.specs.Layout.{tableBytes, part, entry, columnsFrom, rowFrom, Place}
-use Rattle.table.specs.Steps.{signed, joinRows, mix, check, scaleTurn, scaleRow, factorTurn, scaleAll, scale, clear, opens, lift}
+use Rattle.table.specs.Layout.{tableBytes, part, entry, columnsFrom, rowFrom, Inside}
+use Rattle.table.specs.Steps.{signed, joinRows, mix, check, scaleTurn, scaleRow, factorTurn, scaleAll, scale, clear, unknownAt, lift}
 use Rattle.table.specs.Values.{value}
 use Rattle.table.proofs.Cells.{in-row, entry-length, rowFrom-length, entry-row, putRow-same}
 use Rattle.table.proofs.Columns.{overColumns-at}
@@ -50,8 +50,8 @@ module _ (F : Ops) (R : Ring F) where
   sum-joined false s v e = sum-joined-add F R s v e
 
   -- row a += or -= Product(factor, row b)
-  pub joinRows-value : (n rows w : ℕ) (t : List ℕ) → length t ≡ tableBytes n rows w → (minus : Bool) {a b j : ℕ} → Place rows w a j
-      → Place rows w b j → (factor ds : List ℕ) → length factor ≡ n → (c : ℕ) → j ≤ c → c ≤ w
+  pub joinRows-value : (n rows w : ℕ) (t : List ℕ) → length t ≡ tableBytes n rows w → (minus : Bool) {a b j : ℕ} → Inside rows w a j
+      → Inside rows w b j → (factor ds : List ℕ) → length factor ≡ n → (c : ℕ) → j ≤ c → c ≤ w
       → value F n w (joinRows F minus n w a b j factor ds t) a c
       ≡ signed F minus (value F n w t a c) (F .mul (sum F factor) (value F n w t b c))
   unfolding value
@@ -125,7 +125,7 @@ module _ (f n rows w : ℕ) (t : List ℕ) (lt : length t ≡ tableBytes n rows 
   abbrev val : ℕ → ℕ → ℕ
   val = value F n w t
 
-  pub mix-value : 0 < n → {r k j : ℕ} → Place rows w r j → Place rows w k j → (ds : List ℕ) (c : ℕ) → j ≤ c → c ≤ w
+  pub mix-value : 0 < n → {r k j : ℕ} → Inside rows w r j → Inside rows w k j → (ds : List ℕ) (c : ℕ) → j ≤ c → c ≤ w
       → value F n w (mix f n w r j k ds t) r c ≡ F .add (val r c) (F .mul (flagOf (val r j)) (val k c))
   unfolding mix signed value
   mix-value some {r} {k} {j} P Q ds c g l =
@@ -134,24 +134,24 @@ module _ (f n rows w : ℕ) (t : List ℕ) (lt : length t ≡ tableBytes n rows 
       joinRows-value F (L .ring) n rows w t lt false P Q _ _ (zeroFlag-length f ds e ∙ le) c g l
       ∙ ap (λ (x : ℕ). F .add (val r c) (F .mul x (val k c))) (sum-zeroFlag f ds e (omega arith))
 
-  pub check-value : 0 < n → {r j : ℕ} → Place rows w r j → (ds : List ℕ) → check f n w r j ds t ≡ flagOf (val r j)
+  pub check-value : 0 < n → {r j : ℕ} → Inside rows w r j → (ds : List ℕ) → check f n w r j ds t ≡ flagOf (val r j)
   unfolding check value
   check-value some {r} {j} P ds =
       let e : List ℕ = entry n w r j t in
       let le : length e ≡ n = entry-length n rows w t lt P in
       opening-value F (L .ring) _ (zeroFlag f ds e) ∙ sum-zeroFlag f ds e (omega arith)
 
-  pub clear-value : {k r j : ℕ} → Place rows w k j → Place rows w r j → (ds : List ℕ) (c : ℕ) → j ≤ c → c ≤ w
+  pub clear-value : {k r j : ℕ} → Inside rows w k j → Inside rows w r j → (ds : List ℕ) (c : ℕ) → j ≤ c → c ≤ w
       → value F n w (clear f n w r j k ds t) k c ≡ sub F (val k c) (F .mul (val k j) (val r c))
   unfolding clear signed value
   clear-value {k} {r} {j} P Q ds =
       joinRows-value F (L .ring) n rows w t lt true P Q _ ds (entry-length n rows w t lt P)
 
-  pub opens-value : (r : ℕ) (ds : List ℕ) → opens f n w r ds t ≡ val r w
-  unfolding opens value
+  pub opens-value : (r : ℕ) (ds : List ℕ) → unknownAt f n w r ds t ≡ val r w
+  unfolding unknownAt value
   opens-value r ds = opening-value F (L .ring) ds (entry n w r w t)
 
-  pub lift-value : {r j : ℕ} → Place rows w r j → (x : ℕ) {s : ℕ} → Place rows w s w → s < r
+  pub lift-value : {r j : ℕ} → Inside rows w r j → (x : ℕ) {s : ℕ} → Inside rows w s w → s < r
       → value F n w (lift f n w r j x t) s w ≡ sub F (val s w) (F .mul x (val s j))
   unfolding value
   lift-value {j = j} P x {s} Q h =
@@ -171,7 +171,7 @@ module _ (f n rows w : ℕ) (t : List ℕ) (lt : length t ≡ tableBytes n rows 
       blindedValue-is F L nz ds (entry n w r j t) ∙ ap (F .mul b) e ∙ mul-zero F (L .ring) b
 
   -- no draw of the nonzero tape is 0
-  module _ {r j : ℕ} (P : Place rows w r j) (nz ds : List ℕ) (nonzero : (k : ℕ) → k < n - 1 → drawAt F nz k ≡ 0 → ⊥) where
+  module _ {r j : ℕ} (P : Inside rows w r j) (nz ds : List ℕ) (nonzero : (k : ℕ) → k < n - 1 → drawAt F nz k ≡ 0 → ⊥) where
     pivot : List ℕ
     pivot = entry n w r j t
 

@@ -9,7 +9,7 @@ use lib.Dec.{eqb, leb, ltb}
 use borrow.Author.Tests.{eqb-true, eq-eqb, leb-true, leb-false, ltb-true, ltb-false}
 use Rattle.field.specs.Field.{Ops, fieldOf}
 use Rattle.sharing.specs.Rules.{drawAt}
-use Rattle.table.specs.Layout.{tableBytes, entry, Place}
+use Rattle.table.specs.Layout.{tableBytes, entry, Inside}
 use Rattle.table.specs.Steps.{mix, scale, clear, lift}
 use Rattle.table.specs.Values.{value, pickBoth, rowIs, mixValues, scaleValues, clearValues, liftValues}
 use Rattle.table.proofs.Entries.{mix-kept, scale-kept, clear-kept, lift-kept}
@@ -20,7 +20,7 @@ by-tests true true new old = new refl refl
 by-tests true false new old = old (λ e. refl)
 by-tests false b new old = old (λ e. (cc))
 
-module _ (f n rows w : ℕ) (t : List ℕ) (lt : length t ≡ tableBytes n rows w) {s d : ℕ} (Q : Place rows w s d) where
+module _ (f n rows w : ℕ) (t : List ℕ) (lt : length t ≡ tableBytes n rows w) {s d : ℕ} (Q : Inside rows w s d) where
   abbrev F : Ops
   F = fieldOf f
 
@@ -36,25 +36,25 @@ module _ (f n rows w : ℕ) (t : List ℕ) (lt : length t ≡ tableBytes n rows 
       (λ p q. ap (λ (i : ℕ). value F n w t′ i d) (eqb-true s r p) ∙ new d (leb-true j d q) (Q .column-high))
       (λ o. kept-value F n w t t′ s d (old (λ e. leb-false j d (o (eq-eqb s r e)))))
 
-  pub mix-values : 0 < n → {r k j : ℕ} → Place rows w r j → Place rows w k j → (ds : List ℕ)
+  pub mix-values : 0 < n → {r k j : ℕ} → Inside rows w r j → Inside rows w k j → (ds : List ℕ)
       → value F n w (mix f n w r j k ds t) s d ≡ mixValues F r j k val s d
   unfolding mixValues
   mix-values some {r} {k} {j} P K ds =
       row-values r j _ (mix f n w r j k ds t) (mix-value f n rows w t lt some P K ds) (mix-kept n rows w t lt f P k ds Q)
 
-  pub scale-values : 0 < n → {r j : ℕ} → Place rows w r j → (nz ds : List ℕ) → ((k : ℕ) → k < n - 1 → drawAt F nz k ≡ 0 → ⊥)
+  pub scale-values : 0 < n → {r j : ℕ} → Inside rows w r j → (nz ds : List ℕ) → ((k : ℕ) → k < n - 1 → drawAt F nz k ≡ 0 → ⊥)
       → value F n w (scale f n w r j nz ds t) s d ≡ scaleValues F r j val s d
   unfolding scaleValues
   scale-values some {r} {j} P nz ds nonzero =
       row-values r j _ (scale f n w r j nz ds t) (scale-value f n rows w t lt P nz ds nonzero some) (scale-kept n rows w t lt f P nz ds Q)
 
-  pub clear-values : {k r j : ℕ} → Place rows w k j → Place rows w r j → (ds : List ℕ)
+  pub clear-values : {k r j : ℕ} → Inside rows w k j → Inside rows w r j → (ds : List ℕ)
       → value F n w (clear f n w r j k ds t) s d ≡ clearValues F r j k val s d
   unfolding clearValues
   clear-values {k} {r} {j} K P ds =
       row-values k j _ (clear f n w r j k ds t) (clear-value f n rows w t lt K P ds) (clear-kept n rows w t lt f K r ds Q)
 
-  pub lift-values : {r j : ℕ} → Place rows w r j → (x : ℕ) → value F n w (lift f n w r j x t) s d ≡ liftValues F w r j x val s d
+  pub lift-values : {r j : ℕ} → Inside rows w r j → (x : ℕ) → value F n w (lift f n w r j x t) s d ≡ liftValues F w r j x val s d
   unfolding liftValues
   lift-values {r} {j} P x =
       by-tests (eqb d w) (ltb s r)

@@ -37,13 +37,13 @@ abbrev pub putRow : ℕ → ℕ → ℕ → ℕ → List ℕ → List ℕ → Li
 putRow n w r j row t = put (columnsFrom w j * n) (cell n w r j) row t
 
 -- what a step asks of the sizes, and of a row and a column
-pub record Sizes (n rows w : ℕ) : Type 0 where
+pub record Bounded (n rows w : ℕ) : Type 0 where
   pub shares-low : 2 ≤ n
   pub shares-high : n ≤ 4
   pub rows-high : rows ≤ mostRows
   pub width-high : w ≤ mostWidth
 
-pub record Place (rows w r c : ℕ) : Type 0 where
+pub record Inside (rows w r c : ℕ) : Type 0 where
   pub row-low : 1 ≤ r
   pub row-high : r ≤ rows
   pub column-low : 1 ≤ c

@@ -71,8 +71,8 @@ unfoldable pub clear : ℕ → ℕ → ℕ → ℕ → ℕ → ℕ → List ℕ 
 clear f n w r j k ds t = joinRows (fieldOf f) true n w k r j (entry n w k j t) ds t
 
 -- Open(j): opens T[j,m+1] to x_j (table entry itself unchanged)
-unfoldable pub opens : ℕ → ℕ → ℕ → ℕ → List ℕ → List ℕ → ℕ
-opens f n w r ds t = opening (fieldOf f) ds (entry n w r w t)
+unfoldable pub unknownAt : ℕ → ℕ → ℕ → ℕ → List ℕ → List ℕ → ℕ
+unknownAt f n w r ds t = opening (fieldOf f) ds (entry n w r w t)
 
 -- for k < j takes x_j·T[k,j] from T[k,m+1] share by share
 unfoldable pub liftTurn : Ops → ℕ → ℕ → ℕ → ℕ → ℕ → List ℕ → List ℕ

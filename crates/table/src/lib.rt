@@ -10,16 +10,16 @@ ghost use Rattle.sharing.specs.Run.{pairs};
 ghost use Rattle.sharing.specs.Lists.{joined};
 ghost use Rattle.sharing.specs.Rules.{blindedValue, scaled};
 ghost use Rattle.sharing.specs.Bounds.{mostWidth, mostDraws, rowRoom};
-ghost use Rattle.table.specs.Layout.{Sizes, Place, cell, tableBytes, entry, columnsFrom};
-ghost use Rattle.table.specs.Steps.{signed, joinRow, joinRows, mix, check, scaleRow, scaleAll, scale, clear, opens, liftTurn, lift};
+ghost use Rattle.table.specs.Layout.{Bounded, Inside, cell, tableBytes, entry, columnsFrom};
+ghost use Rattle.table.specs.Steps.{signed, joinRow, joinRows, mix, check, scaleRow, scaleAll, scale, clear, unknownAt, liftTurn, lift};
 ghost use Rattle.table.specs.Code.Refreshing.{refreshRow};
 ghost use Rattle.table.specs.Costs.{mixCost, checkCost, scaleCost, scaleNonzero, clearCost, openCost};
 use sharing::Factors;
 
 // The first byte of row r, column c.
 pub fn cell(n: usize, rows: usize, w: usize, r: usize, c: usize) -> usize
-    requires { ⌜ Sizes n rows w ⌝ }
-    requires { ⌜ Place rows w r c ⌝ }
+    requires { ⌜ Bounded n rows w ⌝ }
+    requires { ⌜ Inside rows w r c ⌝ }
     ensures { λ x. ⌜ x ≡ cell n w r c ⌝ }
 {
     ((r - 1) * w + (c - 1)) * n
@@ -80,8 +80,8 @@ fn join_rows(
     j: usize,
     mask: &[u8],
 )
-    requires { ⌜ Sizes n rows w ⌝ }
-    requires { ⌜ Place rows w a j × Place rows w b j ⌝ }
+    requires { ⌜ Bounded n rows w ⌝ }
+    requires { ⌜ Inside rows w a j × Inside rows w b j ⌝ }
     requires { ⌜ (length (now table) ≡ tableBytes n rows w) × (length (now factor) ≡ n) × (columnsFrom w j * pairs n ≤ length (now mask)) ⌝ }
     ensures { λ r. ⌜ now (table .exit) ≡ joinRows (fieldOf f) minus n w a b j (now (factor .entry)) (now (mask .entry)) (now (table .entry)) ⌝ }
 {
@@ -115,8 +115,8 @@ pub fn mix(
     k: usize,
     mask: &[u8],
 )
-    requires { ⌜ Sizes n rows w ⌝ }
-    requires { ⌜ Place rows w r j × Place rows w k j ⌝ }
+    requires { ⌜ Bounded n rows w ⌝ }
+    requires { ⌜ Inside rows w r j × Inside rows w k j ⌝ }
     requires { ⌜ (length (now table) ≡ tableBytes n rows w) × (mixCost f n (columnsFrom w j) ≤ length (now mask)) ⌝ }
     ensures { λ x. ⌜ now (table .exit) ≡ mix f n w r j k (now (mask .entry)) (now (table .entry)) ⌝ }
 {
@@ -138,8 +138,8 @@ pub fn check(
     j: usize,
     mask: &[u8],
 ) -> u8
-    requires { ⌜ Sizes n rows w ⌝ }
-    requires { ⌜ Place rows w r j ⌝ }
+    requires { ⌜ Bounded n rows w ⌝ }
+    requires { ⌜ Inside rows w r j ⌝ }
     requires { ⌜ (length (now table) ≡ tableBytes n rows w) × (checkCost f n ≤ length (now mask)) ⌝ }
     ensures { λ x. ⌜ x ≡ check f n w r j (now (mask .entry)) (now (table .entry)) ⌝ }
 {
@@ -174,12 +174,10 @@ fn refresh_row(f: u64, n: usize, columns: usize, row: &mut [u8], mask: &[u8])
 {
     if n == 2 {
         refresh_columns(f, 2, columns, row, mask);
+    } else if n == 3 {
+        refresh_columns(f, 3, columns, row, mask);
     } else {
-        if n == 3 {
-            refresh_columns(f, 3, columns, row, mask);
-        } else {
-            refresh_columns(f, 4, columns, row, mask);
-        }
+        refresh_columns(f, 4, columns, row, mask);
     }
 }
 
@@ -234,8 +232,8 @@ pub fn scale(
     nonzero: &[u8],
     mask: &[u8],
 )
-    requires { ⌜ Sizes n rows w ⌝ }
-    requires { ⌜ Place rows w r j ⌝ }
+    requires { ⌜ Bounded n rows w ⌝ }
+    requires { ⌜ Inside rows w r j ⌝ }
     requires { ⌜ (length (now table) ≡ tableBytes n rows w) × (scaleCost n (columnsFrom w j) ≤ length (now mask)) × (scaleNonzero n ≤ length (now nonzero)) ⌝ }
     ensures { λ x. ⌜ now (table .exit) ≡ scale f n w r j (now (nonzero .entry)) (now (mask .entry)) (now (table .entry)) ⌝ }
 {
@@ -259,8 +257,8 @@ pub fn opens_zero(
     nonzero: &[u8],
     mask: &[u8],
 ) -> bool
-    requires { ⌜ Sizes n rows w ⌝ }
-    requires { ⌜ Place rows w r j ⌝ }
+    requires { ⌜ Bounded n rows w ⌝ }
+    requires { ⌜ Inside rows w r j ⌝ }
     requires { ⌜ (length (now table) ≡ tableBytes n rows w) × (scaleCost n (columnsFrom w j) ≤ length (now mask)) × (scaleNonzero n ≤ length (now nonzero)) ⌝ }
     ensures { λ x. ⌜ x ≡ eqb (blindedValue (fieldOf f) (now (nonzero .entry)) (now (mask .entry)) (entry n w r j (now (table .entry)))) 0 ⌝ }
 {
@@ -280,8 +278,8 @@ pub fn clear(
     k: usize,
     mask: &[u8],
 )
-    requires { ⌜ Sizes n rows w ⌝ }
-    requires { ⌜ Place rows w r j × Place rows w k j ⌝ }
+    requires { ⌜ Bounded n rows w ⌝ }
+    requires { ⌜ Inside rows w r j × Inside rows w k j ⌝ }
     requires { ⌜ (length (now table) ≡ tableBytes n rows w) × (clearCost n (columnsFrom w j) ≤ length (now mask)) ⌝ }
     ensures { λ x. ⌜ now (table .exit) ≡ clear f n w r j k (now (mask .entry)) (now (table .entry)) ⌝ }
 {
@@ -293,10 +291,10 @@ pub fn clear(
 
 // Open's first half: what stands in row r's last column, opened on a copy.
 pub fn open(f: u64, n: usize, rows: usize, w: usize, table: &[u8], r: usize, mask: &[u8]) -> u8
-    requires { ⌜ Sizes n rows w ⌝ }
-    requires { ⌜ Place rows w r w ⌝ }
+    requires { ⌜ Bounded n rows w ⌝ }
+    requires { ⌜ Inside rows w r w ⌝ }
     requires { ⌜ (length (now table) ≡ tableBytes n rows w) × (openCost n ≤ length (now mask)) ⌝ }
-    ensures { λ x. ⌜ x ≡ opens f n w r (now (mask .entry)) (now (table .entry)) ⌝ }
+    ensures { λ x. ⌜ x ≡ unknownAt f n w r (now (mask .entry)) (now (table .entry)) ⌝ }
 {
     let p = cell(n, rows, w, r, w);
     let mut copy = [0u8; 4];
@@ -306,8 +304,8 @@ pub fn open(f: u64, n: usize, rows: usize, w: usize, table: &[u8], r: usize, mas
 
 // T[i+1,w] -= x·T[i+1,j], share by share.
 fn lift_row(f: u64, n: usize, rows: usize, w: usize, table: &mut [u8], j: usize, x: u8, i: usize)
-    requires { ⌜ Sizes n rows w ⌝ }
-    requires { ⌜ Place rows w (i + 1) j ⌝ }
+    requires { ⌜ Bounded n rows w ⌝ }
+    requires { ⌜ Inside rows w (i + 1) j ⌝ }
     requires { ⌜ length (now table) ≡ tableBytes n rows w ⌝ }
     ensures { λ r. ⌜ now (table .exit) ≡ liftTurn (fieldOf f) n w j x i (now (table .entry)) ⌝ }
 {
@@ -321,8 +319,8 @@ fn lift_row(f: u64, n: usize, rows: usize, w: usize, table: &mut [u8], j: usize,
 
 // Open's second half: the rows above row r lose x times their entry of column j.
 pub fn lift(f: u64, n: usize, rows: usize, w: usize, table: &mut [u8], r: usize, j: usize, x: u8)
-    requires { ⌜ Sizes n rows w ⌝ }
-    requires { ⌜ Place rows w r j ⌝ }
+    requires { ⌜ Bounded n rows w ⌝ }
+    requires { ⌜ Inside rows w r j ⌝ }
     requires { ⌜ length (now table) ≡ tableBytes n rows w ⌝ }
     ensures { λ a. ⌜ now (table .exit) ≡ lift f n w r j x (now (table .entry)) ⌝ }
 {

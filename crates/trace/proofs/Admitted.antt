@@ -11,7 +11,7 @@ use Rattle.sharing.specs.Lists.{Below}
 use Rattle.course.specs.declared.Step.{Step}
 use Rattle.course.specs.declared.Place.the-variants.{At}
 use Rattle.course.specs.declared.Order.{Order}
-use Rattle.course.specs.StepList.{Sizes, inList, maskCost, nonzeroCost, opensOf, fullMask, fullNonzero}
+use Rattle.course.specs.StepList.{Sizes, inList, maskCost, nonzeroCost, revealedBy, fullMask, fullNonzero}
 use Rattle.verdict.specs.Told.{passed}
 use Rattle.verdict.specs.Refusals.{no4, no5, no7, no8, no7step, no8step, numbers}
 use Rattle.solver.specs.Refusals.{placed, ended, entries, wholeTable, costAt, zeroPivot, no10, no11, no12, sizes, gatherOrder, tapes, solveOrder, standing, placing, lending, stepOrder}
@@ -35,7 +35,7 @@ module _ (o : Order) (z : Sizes o) (t : List ℕ) (whole : length t ≡ wholeTab
       and (buffers-pass (o .field) (wholeTable o) t (o .size) solution whole a elements
       and (long-enough 7 _ b and long-enough 8 _ c and nine-passes (o .field) (take (fullNonzero o) nonzero) d))
 
-  pub step-passes : (s : Step) (solution mask : ℕ) (nonzero : List ℕ) → inList (o .size) s ≡ true → zeroPivot o (opensOf s) t ≡ false
+  pub step-passes : (s : Step) (solution mask : ℕ) (nonzero : List ℕ) → inList (o .size) s ≡ true → zeroPivot o (revealedBy s) t ≡ false
       → solution ≡ o .size → mask ≡ maskCost o s → length nonzero ≡ nonzeroCost o s
       → ((k : ℕ) → k < length nonzero → drawAt (fieldOf (o .field)) nonzero k ≡ 0 → ⊥)
       → stepOrder o (At s) t solution mask nonzero ≡ passed

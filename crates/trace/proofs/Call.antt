@@ -11,7 +11,7 @@ use Rattle.course.specs.declared.Step.{Step}
 use Rattle.course.specs.declared.Place.{Place}
 use Rattle.course.specs.declared.Place.the-variants.{At, Stopped, Done}
 use Rattle.course.specs.declared.Order.{Order}
-use Rattle.course.specs.StepList.{opensOf}
+use Rattle.course.specs.StepList.{revealedBy}
 use Rattle.walk.specs.Act.{Held, opened, written, acted}
 use Rattle.verdict.specs.Told.{Told, passed, refused, Line}
 use Rattle.solver.specs.Refusals.{placed, ended, costAt, stepOrder}
@@ -22,7 +22,7 @@ use Rattle.verdict.proofs.Passes.{six-says, nine-says}
 use Rattle.solver.proofs.Ready.{Going, going}
 
 -- a step writes the solution as 01 says
-pub acted-written : (o : Order) (s : Step) (ds nz : List ℕ) (h : Held) → acted o s ds nz h .solution ≡ written (opensOf s) (opened o s ds h) (h .solution)
+pub acted-written : (o : Order) (s : Step) (ds nz : List ℕ) (h : Held) → acted o s ds nz h .solution ≡ written (revealedBy s) (opened o s ds h) (h .solution)
 unfolding acted
 acted-written o s ds nz h = refl
 

@@ -14,7 +14,7 @@ use Rattle.course.specs.declared.Order.{Order}
 use Rattle.course.specs.StepList.{fullMask, fullNonzero}
 use Rattle.walk.specs.Dealing.{dealt}
 use Rattle.meaning.specs.Meaning.{valueOf}
-use Rattle.meaning.proofs.Walked.{NoZero}
+use Rattle.meaning.specs.Claims.{NoZero}
 use Rattle.meaning.proofs.Dealt.{dealt-length, dealt-below, gather-deal, dealtFor-value}
 use Rattle.verdict.specs.Told.{Told, passed, refused}
 use Rattle.solver.specs.Refusals.{entries, wholeTable, dealOrder, solveOrder}

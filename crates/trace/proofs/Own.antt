@@ -8,24 +8,24 @@ use native.Mathlib.Omega.{arith}
 use lib.ListN.{length}
 use Rattle.field.specs.Field.{fieldOf}
 use Rattle.sharing.specs.Lists.{SameDraws}
-use Rattle.table.specs.Layout.{tableBytes, Place}
+use Rattle.table.specs.Layout.{tableBytes, Inside}
 use Rattle.table.specs.Steps.{lift}
 use Rattle.table.proofs.Draws.{mix-draws, check-draws, scale-draws, clear-draws, opens-draws}
 use Rattle.course.specs.declared.Step.{Step}
 use Rattle.course.specs.declared.Step.the-variants.{Mix, Check, Scale, Clear, Open}
 use Rattle.course.specs.declared.Order.{Order}
-use Rattle.course.specs.StepList.{inList, costOf, maskCost, nonzeroCost, opensOf}
+use Rattle.course.specs.StepList.{inList, costOf, maskCost, nonzeroCost, revealedBy}
 use Rattle.course.proofs.Within.{within}
 use Rattle.walk.specs.Act.{held, opened, acted}
 
 -- an entry of [A | b]
-pub in-table : {m r c : ℕ} → 1 ≤ r → r ≤ m → 1 ≤ c → c ≤ m + 1 → Place m (m + 1) r c
+pub in-table : {m r c : ℕ} → 1 ≤ r → r ≤ m → 1 ≤ c → c ≤ m + 1 → Inside m (m + 1) r c
 in-table a b c d = record { row-low = a; row-high = b; column-low = c; column-high = d }
 
 module _ (o : Order) (t : List ℕ) (whole : length t ≡ tableBytes (o .shares) (o .size) (o .size + 1)) {ds es : List ℕ} where
   pub opened-own : (s : Step) → inList (o .size) s ≡ true → SameDraws (fieldOf (o .field)) (maskCost o s) ds es → (x y : List ℕ)
       → opened o s ds (held t x) ≡ opened o s es (held t y)
-  unfolding opened costOf opensOf
+  unfolding opened costOf revealedBy
   opened-own (Mix j k) h d x y = refl
   opened-own (Check j) h d x y =
       let w = within (o .size) (Check j) h in

@@ -17,11 +17,11 @@ use Rattle.course.specs.declared.Step.the-variants.{Mix, Check, Scale, Clear, O
 use Rattle.course.specs.declared.Place.{Place}
 use Rattle.course.specs.declared.Place.the-variants.{At, Stopped}
 use Rattle.course.specs.declared.Order.{Order}
-use Rattle.course.specs.StepList.{inList, opensOf}
-use Rattle.course.specs.Next.{firstOf, after}
+use Rattle.course.specs.StepList.{inList, revealedBy}
+use Rattle.course.specs.Next.{firstOf, following}
 use Rattle.course.proofs.Within.{within}
 use Rattle.walk.specs.Act.{Held, opened, acted}
-use Rattle.solver.specs.Refusals.{wholeTable, openingAt, zeroPivot}
+use Rattle.solver.specs.Refusals.{wholeTable, revealedAt, zeroPivot}
 use Rattle.trace.proofs.Own.{in-table}
 
 either : (P : Place → Type 0) (b : Bool) {x y : Place} → P x → P y → P (pick b x y)
@@ -30,21 +30,21 @@ either P false a b = b
 
 -- there is a pivot for Scale
 abbrev pub Firm : Order → List ℕ → Place → Type 0
-Firm o t p = zeroPivot o (openingAt p) t ≡ false
+Firm o t p = zeroPivot o (revealedAt p) t ≡ false
 
 pub firm-first : (o : Order) (t : List ℕ) (j : ℕ) → Firm o t (firstOf (o .size) j)
-unfolding firstOf opensOf zeroPivot
+unfolding firstOf revealedBy zeroPivot
 firm-first o t j = either (Firm o t) (ltb j (o .size)) refl refl
 
 checked : (o : Order) (t : List ℕ) (j : ℕ) (zero : Bool) → eqb (value (fieldOf (o .field)) (o .shares) (o .size + 1) t j j) 0 ≡ zero
     → Firm o t (pick (eqb (pick {A = ℕ} zero 1 0) 1) (Stopped j) (At (Scale j)))
-unfolding opensOf zeroPivot value
+unfolding revealedBy zeroPivot value
 checked o t j true e = refl
 checked o t j false e = e
 
 module _ (o : Order) (some : 0 < o .shares) (ds nz : List ℕ) (h : Held) (whole : length (h .table) ≡ wholeTable o) where
-  pub firm-after : (s : Step) → inList (o .size) s ≡ true → Firm o (acted o s ds nz h .table) (after (o .size) s (opened o s ds h))
-  unfolding after opensOf zeroPivot opened acted flagOf
+  pub firm-after : (s : Step) → inList (o .size) s ≡ true → Firm o (acted o s ds nz h .table) (following (o .size) s (opened o s ds h))
+  unfolding following revealedBy zeroPivot opened acted flagOf
   firm-after (Mix j k) i = either (Firm o (acted o (Mix j k) ds nz h .table)) (ltb k (o .size)) refl refl
   firm-after (Check j) i =
       let w = within (o .size) (Check j) i in

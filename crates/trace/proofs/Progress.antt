@@ -25,15 +25,15 @@ use Rattle.walk.specs.declared.Ending.the-variants as E
 use Rattle.walk.specs.Act.{held}
 use Rattle.walk.specs.Walk.{solved}
 use Rattle.meaning.specs.Meaning.{IsSolved, IsStopped, Means}
-use Rattle.meaning.proofs.Walked.{NoZero}
-use Rattle.meaning.proofs.Meant.{Lent, meant}
+use Rattle.meaning.specs.Claims.{NoZero, Given}
+use Rattle.meaning.proofs.Meant.{meant}
 use Rattle.verdict.specs.Told.{passed}
 use Rattle.solver.specs.Refusals.{wholeTable, solveOrder, costAt, maskAt, nonzeroAt}
 use Rattle.verdict.specs.Calls.{gives}
 use Rattle.solver.specs.Calls.{solveDoes, solveCall}
 use Rattle.verdict.proofs.Passes.{six-says, nine-says}
 use Rattle.solver.proofs.Ready.{Solvable, solvable}
-use Rattle.trace.specs.Trace.{Beside, Host, begin, hostAfter, drive, Refused, Accepted, countsIn, Begins, Agrees, Admitted, Fit, calls, after, Supplies, Ended, Own}
+use Rattle.trace.specs.Trace.{Beside, Host, begin, hostAfter, drive, Refused, Accepted, countsIn, Begins, Agrees, Admitted, Fit, calls, driven, Supplies, Ended, Own}
 use Rattle.trace.proofs.Admitted.{step-passes}
 use Rattle.trace.proofs.Call.{verdict, accepted-call, each-call}
 use Rattle.trace.proofs.Reached.{reached, order-kept}
@@ -65,29 +65,29 @@ module _ (o : Order) (sized : Sizes o) (t y : List ℕ) where
 
   -- a host that goes on with fit calls
   module _ (admitted : Admitted o t) (lend : Host → Beside) (supplies : Supplies o first lend) where
-    pub supplied : (k : ℕ) (s : Step) → after lend k first .progress .place ≡ At s → Accepted (after lend k first) (lend (after lend k first)) s
-    unfolding after
+    pub supplied : (k : ℕ) (s : Step) → driven lend k first .progress .place ≡ At s → Accepted (driven lend k first) (lend (driven lend k first)) s
+    unfolding driven
     supplied k s e = accepted admitted (calls lend k first) (lend (drive first (calls lend k first))) s e (supplies .fit k s e)
 
     -- at a step, every call so far was accepted
-    all-accepted : (k : ℕ) (s : Step) → after lend k first .progress .place ≡ At s → after lend k first .steps ≡ k
-    unfolding after calls drive
+    all-accepted : (k : ℕ) (s : Step) → driven lend k first .progress .place ≡ At s → driven lend k first .steps ≡ k
+    unfolding driven calls drive
     all-accepted zero s e = refl
-    all-accepted (suc k) s e = by-place (after lend k first .progress .place) refl (all-accepted k)
+    all-accepted (suc k) s e = by-place (driven lend k first .progress .place) refl (all-accepted k)
       where
-        next : after lend (suc k) first ≡ hostAfter (after lend k first) (lend (after lend k first))
+        next : driven lend (suc k) first ≡ hostAfter (driven lend k first) (lend (driven lend k first))
         next = last-call first (calls lend k first) (lend (drive first (calls lend k first)))
 
         -- an ended host stays as it is
-        stays : ((r : Step) → after lend k first .progress .place ≡ At r → ⊥) → after lend (suc k) first ≡ after lend k first
+        stays : ((r : Step) → driven lend k first .progress .place ≡ At r → ⊥) → driven lend (suc k) first ≡ driven lend k first
         stays ended =
             next
-            ∙ ⊎-elim (λ (r : Refused (after lend k first) (lend (after lend k first))). r .after)
-            (λ (r : (s : Step) × Accepted (after lend k first) (lend (after lend k first)) s). absurd (ended (r .0) (r .1 .place)))
-            (each-call (after lend k first) (lend (after lend k first)))
+            ∙ ⊎-elim (λ (r : Refused (driven lend k first) (lend (driven lend k first))). r .after)
+            (λ (r : (s : Step) × Accepted (driven lend k first) (lend (driven lend k first)) s). absurd (ended (r .0) (r .1 .place)))
+            (each-call (driven lend k first) (lend (driven lend k first)))
 
-        by-place : (p : Place) → after lend k first .progress .place ≡ p
-            → ((r : Step) → after lend k first .progress .place ≡ At r → after lend k first .steps ≡ k) → after lend (suc k) first .steps ≡ suc k
+        by-place : (p : Place) → driven lend k first .progress .place ≡ p
+            → ((r : Step) → driven lend k first .progress .place ≡ At r → driven lend k first .steps ≡ k) → driven lend (suc k) first .steps ≡ suc k
         by-place (At r) q ih =
             ap (λ (h : Host). h .steps) (next ∙ supplied k r q .after) ∙ omega (arith, ih r q)
         by-place (Stopped j) q ih =
@@ -99,8 +99,8 @@ module _ (o : Order) (sized : Sizes o) (t y : List ℕ) where
             let n : _≡_ {A = ℕ} 0 1 = cc in
             absurd (let f : ⊥ = omega arith in f)
 
-    ends : (p : Place) → after lend (length (stepList (o .size))) first .progress .place ≡ p → Ended p
-    unfolding after
+    ends : (p : Place) → driven lend (length (stepList (o .size))) first .progress .place ≡ p → Ended p
+    unfolding driven
     ends (At s) e =
         let k : ℕ = length (stepList (o .size)) in
         let g = reached o sized t y (calls lend k first) in
@@ -110,8 +110,8 @@ module _ (o : Order) (sized : Sizes o) (t y : List ℕ) where
     ends Done e = tt
 
     -- it is stopped or done after no more calls than the list has steps; how many of them were accepted is `counted`
-    pub reaches : Ended (after lend (length (stepList (o .size))) first .progress .place)
-    reaches = ends (after lend (length (stepList (o .size))) first .progress .place) refl
+    pub reaches : Ended (driven lend (length (stepList (o .size))) first .progress .place)
+    reaches = ends (driven lend (length (stepList (o .size))) first .progress .place) refl
 
 -- ---- every whole solve has such a run
 
@@ -164,12 +164,12 @@ module _ (o : Order) (t y ms zs : List ℕ) (passes : solveOrder o t (length y) 
   part-long a c full tape h g = length-take-le c (drop a tape) (rw length-drop (omega arith))
 
   cut-fits : Supplies o fresh (cut o ms zs)
-  unfolding after costAt
+  unfolding driven costAt
   cut-fits = record { fit = fits }
     where
-      fits : (k : ℕ) (s : Step) → after (cut o ms zs) k fresh .progress .place ≡ At s → Fit o s (cut o ms zs (after (cut o ms zs) k fresh))
+      fits : (k : ℕ) (s : Step) → driven (cut o ms zs) k fresh .progress .place ≡ At s → Fit o s (cut o ms zs (driven (cut o ms zs) k fresh))
       fits k s e =
-          let h : Host = after (cut o ms zs) k fresh in
+          let h : Host = driven (cut o ms zs) k fresh in
           let g = reached o (checked .sizes) t y (calls (cut o ms zs) k fresh) in
           let r = room-along o (rw e at (g .along)) in
           rw e
@@ -189,18 +189,18 @@ module _ (o : Order) (t y ms zs : List ℕ) (passes : solveOrder o t (length y) 
     mask : h .mask ≡ take (length (h .mask)) ms
     nonzero : h .nonzero ≡ take (length (h .nonzero)) zs
 
-  cut-after : (h : Host) → Cut h → Cut (hostAfter h (cut o ms zs h))
-  cut-after h b =
+  cut-driven : (h : Host) → Cut h → Cut (hostAfter h (cut o ms zs h))
+  cut-driven h b =
       ⊎-elim (λ (r : Refused h (cut o ms zs h)). rw (r .after) b)
       (λ (r : (s : Step) × Accepted h (cut o ms zs h) s).
       rw (r .1 .after) (record { mask = cut-more (h .mask) ms (maskAt o (h .progress .place)) (b .mask); nonzero = cut-more (h .nonzero) zs (nonzeroAt o (h .progress .place)) (b .nonzero) }))
       (each-call h (cut o ms zs h))
 
-  cuts : (k : ℕ) → Cut (after (cut o ms zs) k fresh)
-  unfolding after calls drive
+  cuts : (k : ℕ) → Cut (driven (cut o ms zs) k fresh)
+  unfolding driven calls drive
   cuts zero = record { mask = refl; nonzero = refl }
   cuts (suc k) =
-      rw (last-call fresh (calls (cut o ms zs) k fresh) (cut o ms zs (after (cut o ms zs) k fresh))) (cut-after (after (cut o ms zs) k fresh) (cuts k))
+      rw (last-call fresh (calls (cut o ms zs) k fresh) (cut o ms zs (driven (cut o ms zs) k fresh))) (cut-driven (driven (cut o ms zs) k fresh) (cuts k))
 
   owns : (k : ℕ) → Own fresh (calls (cut o ms zs) k fresh)
   unfolding calls Own
@@ -211,7 +211,7 @@ module _ (o : Order) (t y ms zs : List ℕ) (passes : solveOrder o t (length y) 
   -- to the end (`supplied`), come to the solve's end. So `agrees` speaks of every solve
   pub as-solve : (cs : List Beside) × Own fresh cs × Ended (drive fresh cs .progress .place)
       × Agrees (drive fresh cs) (solveCall o (held t y) ms zs) (drive fresh cs .progress .place)
-  unfolding after
+  unfolding driven
   as-solve =
       let k : ℕ = length (stepList (o .size)) in
       let cs : List Beside = calls (cut o ms zs) k fresh in
@@ -253,7 +253,7 @@ module _ (o : Order) (sized : Sizes o) (t y : List ℕ) (cs : List Beside) (whol
         omega arith
   ]
 
-  lent : (x : List ℕ) → length x ≡ o .size → Lent o tape t x
+  lent : (x : List ℕ) → length x ≡ o .size → Given o tape t x
   lent x l = record { sizes = sized; table = whole; solution = l; nonzero = tape-drawn }
 
   same-draws : Begins o (end .mask) (end .mask)

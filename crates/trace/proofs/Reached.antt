@@ -18,15 +18,15 @@ use Rattle.course.specs.declared.Step.{Step}
 use Rattle.course.specs.declared.Place.the-variants.{Done}
 use Rattle.course.specs.declared.Order.{Order}
 use Rattle.course.specs.declared.Counts.{Counts}
-use Rattle.course.specs.StepList.{Sizes, maskCost, nonzeroCost, opensOf, stepList, sumOver, sums}
-use Rattle.course.specs.Next.{firstOf, after, nextOf, startOf, Chain}
+use Rattle.course.specs.StepList.{Sizes, maskCost, nonzeroCost, revealedBy, stepList, sumOver, sums}
+use Rattle.course.specs.Next.{firstOf, following, nextOf, startOf, Chain}
 use Rattle.course.proofs.Within.{within}
 use Rattle.course.proofs.Chain.{unique, chain}
 use Rattle.course.proofs.Sums.{sum-append}
 use Rattle.course.proofs.Along.{resume, calm-resume, first-calm, resume-after, next-place, Along, start-along, turn-along}
 use Rattle.walk.specs.Act.{held, written}
 use Rattle.walk.specs.Walk.{Tally, running, courseOf, spent, walk, fresh}
-use Rattle.trace.specs.Trace.{Beside, Host, begin, lends, hostAfter, drive, orderIn, opensAt, stepped, NoneZero, Refused, Accepted, countsIn, Begins, Admitted, Own}
+use Rattle.trace.specs.Trace.{Beside, Host, begin, lends, hostAfter, drive, orderIn, openedIn, stepped, NoneZero, Refused, Accepted, countsIn, Begins, Admitted, Own}
 use Rattle.trace.proofs.Call.{acted-written, each-call}
 use Rattle.trace.proofs.Own.{opened-own, table-own}
 use Rattle.walk.proofs.Acted.{acted-sized, acted-places, acted-below}
@@ -104,12 +104,12 @@ module _ (P : Type 0) (t x : List ℕ) (h : Host) (c : Beside) (s : Step) (sized
   own = orderIn h
 
   abbrev u : ℕ
-  u = opensAt h c s
+  u = openedIn h c s
 
   abbrev h′ : Host
   h′ = stepped h c s
 
-  next : h′ .progress .place ≡ after (own .size) s u
+  next : h′ .progress .place ≡ following (own .size) s u
   next = next-place (h .progress) s u refl (a .place) (a .listed)
 
   mask-more : length (h .mask ++ c .mask) ≡ length (h .mask) + maskCost own s
@@ -121,7 +121,7 @@ module _ (P : Type 0) (t x : List ℕ) (h : Host) (c : Beside) (s : Step) (sized
   whole-more : (rest : List Step) → Chain (own .size) (resume (h′ .progress .place)) rest Done
       → stepList (own .size) ≡ (g .steps ++ (s ∷ [])) ++ rest
   whole-more rest e =
-      let f : Chain (own .size) (after (own .size) s 0) rest Done = rw (next, resume-after (own .size) s u) at e in
+      let f : Chain (own .size) (following (own .size) s 0) rest Done = rw (next, resume-after (own .size) s u) at e in
       rw append-assoc (g .whole (s ∷ rest) (rw (a .place) (refl, f)))
 
   module _ (y ms zs : List ℕ) (d : Begins own (h .mask ++ c .mask) ms) (e : Begins own (h .nonzero ++ c .nonzero) zs) where
@@ -140,7 +140,7 @@ module _ (P : Type 0) (t x : List ℕ) (h : Host) (c : Beside) (s : Step) (sized
     sole-more v e′ =
         let dm = begins-back own (h .mask) (c .mask) d (a .mask) in
         acted-written own s (drop (length (h .mask)) ms) (drop (length (h .nonzero)) zs) (held (h .table) v)
-        ∙ ap₂ (written (opensOf s)) (sym (opened-own own (h .table) (a .table) s (a .listed) dm (c .solution) v)) (sym e′)
+        ∙ ap₂ (written (revealedBy s)) (sym (opened-own own (h .table) (a .table) s (a .listed) dm (c .solution) v)) (sym e′)
 
     solve-more : (v : List ℕ)
         × (walk own ms zs (g .steps ++ (s ∷ [])) (running (fresh (held t y))) ≡ courseOf (h′ .progress .place) (tallyOf h′ v))

@@ -12,7 +12,7 @@ use Rattle.course.specs.declared.Place.{Place}
 use Rattle.course.specs.declared.Order.{Order}
 use Rattle.verdict.specs.Told.{Told, passed, refused, Line, refuse, _or_}
 use Rattle.verdict.specs.Refusals.{differs, outside, anyPlace, tooLarge, zeroDraw, no1, no2, no3, no4, no5, no6, no7step, no8step, no9, numbers}
-use Rattle.solver.specs.Refusals.{wholeTable, placed, ended, maskAt, nonzeroAt, openingAt, zeroPivot, no10, no11, no12, sizes, standing, placing, lending, stepOrder}
+use Rattle.solver.specs.Refusals.{wholeTable, placed, ended, maskAt, nonzeroAt, revealedAt, zeroPivot, no10, no11, no12, sizes, standing, placing, lending, stepOrder}
 
 -- an order that does not give refusal k
 pub record Without (k : ℕ) (v : Told) : Type 0 where
@@ -47,7 +47,7 @@ module _ (o : Order) (p : Place) (t : List ℕ) (solution mask : ℕ) (nonzero :
       ∷ anyPlace (zeroDraw (o .field)) nonzero
       ∷ not (placed (o .size) p)
       ∷ ended p
-      ∷ zeroPivot o (openingAt p) t
+      ∷ zeroPivot o (revealedAt p) t
       ∷ []
 
   -- a refusal whose test does not hold is not given, wherever it stands in the order

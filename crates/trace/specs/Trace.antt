@@ -16,7 +16,7 @@ use Rattle.course.specs.declared.Place.the-variants.{At, Stopped, Done}
 use Rattle.course.specs.declared.Order.{Order}
 use Rattle.course.specs.declared.Progress.{Progress}
 use Rattle.course.specs.declared.Counts.{Counts}
-use Rattle.course.specs.StepList.{inList, maskCost, nonzeroCost, opensOf, stepList, upTo, sums}
+use Rattle.course.specs.StepList.{inList, maskCost, nonzeroCost, revealedBy, stepList, upTo, sums}
 use Rattle.course.specs.Next.{nextOf, startOf}
 use Rattle.walk.specs.declared.Ending.{Ending}
 use Rattle.walk.specs.declared.Ending.the-variants as E
@@ -89,16 +89,16 @@ abbrev pub orderIn : Host → Order
 orderIn h = orderOf (h .progress)
 
 -- what a call at step s opens
-abbrev pub opensAt : Host → Beside → Step → ℕ
-opensAt h c s = opened (orderIn h) s (c .mask) (lends h c)
+abbrev pub openedIn : Host → Beside → Step → ℕ
+openedIn h c s = opened (orderIn h) s (c .mask) (lends h c)
 
 -- step s done on the lent parts, by the rules of the paper: the table share for share, and of the solution no more than `written` says
 abbrev pub stepped : Host → Beside → Step → Host
 stepped h c s =
     record {
-      progress = nextOf (h .progress) (opensAt h c s);
+      progress = nextOf (h .progress) (openedIn h c s);
       table = acted (orderIn h) s (c .mask) (c .nonzero) (lends h c) .table;
-      solution = written (opensOf s) (opensAt h c s) (c .solution);
+      solution = written (revealedBy s) (openedIn h c s) (c .solution);
       steps = h .steps + 1;
       mask = h .mask ++ c .mask;
       nonzero = h .nonzero ++ c .nonzero;
@@ -125,7 +125,7 @@ pub record Accepted (h : Host) (c : Beside) (s : Step) : Type 0 where
   pub mask : length (c .mask) ≡ maskCost (orderIn h) s
   pub nonzero : length (c .nonzero) ≡ nonzeroCost (orderIn h) s
   pub drawn : NoneZero (orderIn h) (c .nonzero)
-  pub says : called h c .says ≡ gives (tells (opensOf s) (opensAt h c s))
+  pub says : called h c .says ≡ gives (tells (revealedBy s) (openedIn h c s))
   pub after : hostAfter h c ≡ stepped h c s
 
 -- the accepted calls and the draws that they were lent
@@ -170,12 +170,12 @@ unfoldable pub calls : (Host → Beside) → ℕ → Host → List Beside
 calls lend zero h = []
 calls lend (suc k) h = let cs = calls lend k h in cs ++ (lend (drive h cs) ∷ [])
 
-unfoldable pub after : (Host → Beside) → ℕ → Host → Host
-after lend k h = drive h (calls lend k h)
+unfoldable pub driven : (Host → Beside) → ℕ → Host → Host
+driven lend k h = drive h (calls lend k h)
 
 -- a host that lends what the step asks for, at each step that it comes to
 pub record Supplies (o : Order) (first : Host) (lend : Host → Beside) : Type 0 where
-  pub fit : (k : ℕ) (s : Step) → after lend k first .progress .place ≡ At s → Fit o s (lend (after lend k first))
+  pub fit : (k : ℕ) (s : Step) → driven lend k first .progress .place ≡ At s → Fit o s (lend (driven lend k first))
 
 abbrev pub Ended : Place → Type 0
 Ended (At s) = ⊥

@@ -9,30 +9,30 @@ use native.Mathlib.Omega.{arith}
 use lib.ListN.{length, length-set}
 use Rattle.field.specs.Field.{fieldOf}
 use Rattle.sharing.specs.Lists.{Below}
-use Rattle.table.specs.Layout.{Sizes as TableSizes, Place, tableBytes}
+use Rattle.table.specs.Layout.{Bounded, Inside, tableBytes}
 use Rattle.table.proofs.Lengths.{mix-length, scale-length, clear-length, lift-length}
 use Rattle.table.proofs.Elements.{mix-below, scale-below, clear-below, lift-below}
 use Rattle.course.specs.declared.Step.{Step}
 use Rattle.course.specs.declared.Step.the-variants.{Mix, Check, Scale, Clear, Open}
 use Rattle.course.specs.declared.Order.{Order}
-use Rattle.course.specs.StepList.{Sizes, inList, Opens, None, Flag, Pivot, Unknown, opensOf}
+use Rattle.course.specs.StepList.{Sizes, inList, Revealed, None, Flag, Pivot, Unknown, revealedBy}
 use Rattle.course.proofs.Within.{Within, within}
 use Rattle.walk.specs.Act.{Held, opened, written, acted}
 
 -- m rows of m+1 columns
-pub square : {o : Order} → Sizes o → TableSizes (o .shares) (o .size) (o .size + 1)
+pub square : {o : Order} → Sizes o → Bounded (o .shares) (o .size) (o .size + 1)
 square z =
     record { shares-low = z .two; shares-high = z .four; rows-high = z .most; width-high = omega (arith, z .most) }
 
 -- the pivot's place in column j, that of a row below it, and the last column of its row
 module _ {m j : ℕ} where
-  pub pivot : 1 ≤ j → j ≤ m → Place m (m + 1) j j
+  pub pivot : 1 ≤ j → j ≤ m → Inside m (m + 1) j j
   pivot a b = record { row-low = a; row-high = b; column-low = a; column-high = omega arith }
 
-  pub under : {k : ℕ} → 1 ≤ j → j < k → k ≤ m → Place m (m + 1) k j
+  pub under : {k : ℕ} → 1 ≤ j → j < k → k ≤ m → Inside m (m + 1) k j
   under a b c = record { row-low = omega arith; row-high = c; column-low = a; column-high = omega arith }
 
-  pub last : 1 ≤ j → j ≤ m → Place m (m + 1) j (m + 1)
+  pub last : 1 ≤ j → j ≤ m → Inside m (m + 1) j (m + 1)
   last a b = record { row-low = a; row-high = b; column-low = omega arith; column-high = omega arith }
 
 -- the table and the solution of an order
@@ -53,7 +53,7 @@ module _ (o : Order) where
   acted-sized (Clear j k) u ds nz h l = clear-length (o .shares) m (m + 1) (h .table) l (o .field) (under (u .0) (u .1) (u .2)) j ds
   acted-sized (Open j) u ds nz h l = lift-length (o .shares) m (m + 1) (h .table) l (o .field) (pivot (u .0) (u .1)) (opened o (Open j) ds h)
 
-  written-length : (w : Opens) (x : ℕ) (v : List ℕ) → length (written w x v) ≡ length v
+  written-length : (w : Revealed) (x : ℕ) (v : List ℕ) → length (written w x v) ≡ length v
   written-length None x v = refl
   written-length (Flag j) x v = refl
   written-length (Pivot j) x v = refl
@@ -61,7 +61,7 @@ module _ (o : Order) where
 
   pub acted-places : (s : Step) (ds nz : List ℕ) (h : Held) → length (acted o s ds nz h .solution) ≡ length (h .solution)
   unfolding acted
-  acted-places s ds nz h = written-length (opensOf s) (opened o s ds h) (h .solution)
+  acted-places s ds nz h = written-length (revealedBy s) (opened o s ds h) (h .solution)
 
   pub acted-length : (s : Step) → inList m s ≡ true → (ds nz : List ℕ) (h : Held) → Lengths o h → Lengths o (acted o s ds nz h)
   acted-length s i ds nz h l =

@@ -9,10 +9,10 @@ use Rattle.course.specs.declared.Place.{Place}
 use Rattle.course.specs.declared.Place.the-variants.{At, Stopped, Done}
 use Rattle.course.specs.declared.Order.{Order}
 use Rattle.course.specs.StepList.{stepList}
-use Rattle.course.specs.Next.{firstOf, after}
+use Rattle.course.specs.Next.{firstOf, following}
 use Rattle.course.proofs.Along.{Along, first-calm, first, none, start-along, start-rest, turn-along, turn-rest, counted-done, counted-stop}
 use Rattle.walk.specs.Act.{Held}
-use Rattle.walk.specs.Walk.{Tally, courseOf, opens, spent, walk, conclude, fresh, solved, Counters}
+use Rattle.walk.specs.Walk.{Tally, courseOf, openedAt, spent, walk, conclude, fresh, solved, Counters}
 use Rattle.walk.proofs.Walked.{calm-course, walk-stopped}
 
 module _ (o : Order) (ms zs : List ℕ) where
@@ -29,10 +29,10 @@ module _ (o : Order) (ms zs : List ℕ) where
   goes (s ∷ l) (At r) t g e =
       let f = first (o .size) r (g .rest) (g .leads) .1 in
       let same : r ≡ s = cc in
-      let x : ℕ = opens o ms zs r t in
+      let x : ℕ = openedAt o ms zs r t in
       let left = turn-rest o g x in
       rw (← same)
-      (goes l (after (o .size) r x) (spent o ms zs r t) (turn-along o g x) (cc))
+      (goes l (following (o .size) r x) (spent o ms zs r t) (turn-along o g x) (cc))
   goes (s ∷ l) (Stopped j) t g e = rw (walk-stopped o ms zs l j t) (counted-stop o g)
   goes (s ∷ l) Done t g e =
       let f = none (o .size) (g .rest) (g .leads) in

@@ -10,10 +10,10 @@ use Rattle.course.specs.declared.Place.the-variants.{At, Stopped, Done}
 use Rattle.course.specs.declared.Order.{Order}
 use Rattle.course.specs.declared.Draws.{Draws}
 use Rattle.course.specs.StepList.{costOf, stepList}
-use Rattle.course.specs.Next.{firstOf, after}
+use Rattle.course.specs.Next.{firstOf, following}
 use Rattle.course.proofs.Along.{Along, first-calm, none, start-along, start-rest, turn-along, turn-rest}
 use Rattle.walk.specs.Act.{Held, opened, acted}
-use Rattle.walk.specs.Walk.{Tally, Course, running, stopped, courseOf, opens, spent, walk, fresh}
+use Rattle.walk.specs.Walk.{Tally, Course, running, stopped, courseOf, openedAt, spent, walk, fresh}
 use Rattle.walk.proofs.Walked.{calm-course, walk-stopped}
 
 abbrev pub tally : Held → ℕ → ℕ → ℕ → Tally
@@ -34,10 +34,10 @@ module _ (o : Order) (ms zs : List ℕ) where
 
   module _ {goal : Course} {t : Tally} where
     -- a step is taken
-    pub turn : {s : Step} → Going o ms zs goal (At s) t → Going o ms zs goal (after (o .size) s (opens o ms zs s t)) (spent o ms zs s t)
+    pub turn : {s : Step} → Going o ms zs goal (At s) t → Going o ms zs goal (following (o .size) s (openedAt o ms zs s t)) (spent o ms zs s t)
     unfolding walk
     turn {s} g =
-        let x = opens o ms zs s t in
+        let x = openedAt o ms zs s t in
         record {
           along = turn-along o (g .along) x;
           same = rw (turn-rest o (g .along) x) at (g .same);
@@ -54,6 +54,6 @@ module _ (o : Order) (ms zs : List ℕ) where
   -- a step is taken, each part of it by an equation
   pub moved : {goal : Course} {s : Step} {x k a b : ℕ} {r : Draws} {p q : Place} {h u : Held}
       → Going o ms zs goal p (tally h k a b) → p ≡ At s
-      → x ≡ opened o s (drop a ms) h → q ≡ after (o .size) s x → u ≡ acted o s (drop a ms) (drop b zs) h
+      → x ≡ opened o s (drop a ms) h → q ≡ following (o .size) s x → u ≡ acted o s (drop a ms) (drop b zs) h
       → r ≡ costOf o s → Going o ms zs goal q (tally u (k + 1) (a + r .mask) (b + r .nonzero))
   moved {s = s} g e x q u r = rw (r, u, q, x) (turn {s = s} (rw e at g))

@@ -11,10 +11,10 @@ use Rattle.course.specs.declared.Step.the-variants.{Mix, Check, Scale, Clear, O
 use Rattle.course.specs.declared.Place.{Place}
 use Rattle.course.specs.declared.Place.the-variants.{At, Stopped, Done}
 use Rattle.course.specs.declared.Order.{Order}
-use Rattle.course.specs.StepList.{Opens, None, Flag, Pivot, Unknown, opensOf}
-use Rattle.course.specs.Next.{after}
+use Rattle.course.specs.StepList.{Revealed, None, Flag, Pivot, Unknown, revealedBy}
+use Rattle.course.specs.Next.{following}
 use Rattle.course.proofs.Along.{Calm, after-calm}
-use Rattle.walk.specs.Walk.{Tally, Course, running, stopped, courseOf, opens, spent, then, walk}
+use Rattle.walk.specs.Walk.{Tally, Course, running, stopped, courseOf, openedAt, spent, then, walk}
 
 pub calm-course : (p : Place) (t : Tally) → Calm p → running t ≡ courseOf p t
 calm-course (At s) t c = refl
@@ -22,7 +22,7 @@ calm-course (Stopped j) t c = absurd c
 calm-course Done t c = refl
 
 -- where a step leaves a walk, from what it opened: Check stops it where it opened 1
-abbrev pub settle : Opens → ℕ → Tally → Course
+abbrev pub settle : Revealed → ℕ → Tally → Course
 settle None x t = running t
 settle (Flag j) x t = pick (eqb x 1) (stopped j t) (running t)
 settle (Pivot j) x t = running t
@@ -32,17 +32,17 @@ course-check : (b : Bool) (j : ℕ) (t : Tally) → pick b (stopped j t) (runnin
 course-check true j t = refl
 course-check false j t = refl
 
-settle-after : (m : ℕ) (s : Step) (x : ℕ) (t : Tally) → settle (opensOf s) x t ≡ courseOf (after m s x) t
-unfolding after opensOf
-settle-after m (Mix j k) x t = calm-course (after m (Mix j k) x) t (after-calm m (Mix j k))
+settle-after : (m : ℕ) (s : Step) (x : ℕ) (t : Tally) → settle (revealedBy s) x t ≡ courseOf (following m s x) t
+unfolding following revealedBy
+settle-after m (Mix j k) x t = calm-course (following m (Mix j k) x) t (after-calm m (Mix j k))
 settle-after m (Check j) x t = course-check (eqb x 1) j t
-settle-after m (Scale j) x t = calm-course (after m (Scale j) x) t (after-calm m (Scale j))
-settle-after m (Clear j k) x t = calm-course (after m (Clear j k) x) t (after-calm m (Clear j k))
-settle-after m (Open j) x t = calm-course (after m (Open j) x) t (after-calm m (Open j))
+settle-after m (Scale j) x t = calm-course (following m (Scale j) x) t (after-calm m (Scale j))
+settle-after m (Clear j k) x t = calm-course (following m (Clear j k) x) t (after-calm m (Clear j k))
+settle-after m (Open j) x t = calm-course (following m (Open j) x) t (after-calm m (Open j))
 
 module _ (o : Order) (ms zs : List ℕ) where
-  pub then-settled : (s : Step) (t : Tally) → then o ms zs s (running t) ≡ settle (opensOf s) (opens o ms zs s t) (spent o ms zs s t)
-  then-settled s t = sym (settle-after (o .size) s (opens o ms zs s t) (spent o ms zs s t))
+  pub then-settled : (s : Step) (t : Tally) → then o ms zs s (running t) ≡ settle (revealedBy s) (openedAt o ms zs s t) (spent o ms zs s t)
+  then-settled s t = sym (settle-after (o .size) s (openedAt o ms zs s t) (spent o ms zs s t))
 
   pub walk-append : (a b : List Step) (c : Course) → walk o ms zs (a ++ b) c ≡ walk o ms zs b (walk o ms zs a c)
   unfolding walk

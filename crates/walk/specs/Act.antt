@@ -4,11 +4,11 @@
 use mathlib.Core.List.{List}
 use Prim.Native.Nat.{ℕ, _+_, _-_}
 use lib.ListN.{set}
-use Rattle.table.specs.Steps.{mix, check, scale, clear, opens, lift}
+use Rattle.table.specs.Steps.{mix, check, scale, clear, unknownAt, lift}
 use Rattle.course.specs.declared.Step.{Step}
 use Rattle.course.specs.declared.Step.the-variants.{Mix, Check, Scale, Clear, Open}
 use Rattle.course.specs.declared.Order.{Order}
-use Rattle.course.specs.StepList.{Opens, None, Flag, Pivot, Unknown, opensOf}
+use Rattle.course.specs.StepList.{Revealed, None, Flag, Pivot, Unknown, revealedBy}
 
 -- the lent table and solution
 pub record Held : Type 0 where
@@ -20,17 +20,17 @@ held t x = record { table = t; solution = x }
 
 -- the number that is opened, Check's flag or Open's x_j, from what a step opens; 0 where there is none, as what Scale opens stays in its
 -- inversion
-abbrev pub openedBy : Order → Opens → List ℕ → Held → ℕ
+abbrev pub openedBy : Order → Revealed → List ℕ → Held → ℕ
 openedBy o None ds h = 0
 openedBy o (Flag j) ds h = check (o .field) (o .shares) (o .size + 1) j j ds (h .table)
 openedBy o (Pivot j) ds h = 0
-openedBy o (Unknown j) ds h = opens (o .field) (o .shares) (o .size + 1) j ds (h .table)
+openedBy o (Unknown j) ds h = unknownAt (o .field) (o .shares) (o .size + 1) j ds (h .table)
 
 unfoldable pub opened : Order → Step → List ℕ → Held → ℕ
-opened o s ds h = openedBy o (opensOf s) ds h
+opened o s ds h = openedBy o (revealedBy s) ds h
 
 -- 01: "Only Open writes the solution, and only its place j"
-abbrev pub written : Opens → ℕ → List ℕ → List ℕ
+abbrev pub written : Revealed → ℕ → List ℕ → List ℕ
 written None x v = v
 written (Flag j) x v = v
 written (Pivot j) x v = v
@@ -46,4 +46,4 @@ worked o (Open j) ds nz h = lift (o .field) (o .shares) (o .size + 1) j j (opene
 
 -- what a step leaves
 unfoldable pub acted : Order → Step → List ℕ → List ℕ → Held → Held
-acted o s ds nz h = held (worked o s ds nz h) (written (opensOf s) (opened o s ds h) (h .solution))
+acted o s ds nz h = held (worked o s ds nz h) (written (revealedBy s) (opened o s ds h) (h .solution))

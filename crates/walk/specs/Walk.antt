@@ -11,7 +11,7 @@ use Rattle.course.specs.declared.Place.the-variants as P
 use Rattle.course.specs.declared.Order.{Order}
 use Rattle.course.specs.declared.Counts.{Counts}
 use Rattle.course.specs.StepList.{maskCost, nonzeroCost, stepList, upTo, sums}
-use Rattle.course.specs.Next.{after}
+use Rattle.course.specs.Next.{following}
 use Rattle.walk.specs.declared.Ending.{Ending}
 use Rattle.walk.specs.declared.Ending.the-variants.{Solved, Stopped}
 use Rattle.walk.specs.Act.{Held, held, opened, acted}
@@ -34,8 +34,8 @@ courseOf (P.Stopped j) t = stopped j t
 courseOf P.Done t = running t
 
 module _ (o : Order) (ms zs : List ℕ) where
-  abbrev pub opens : Step → Tally → ℕ
-  opens s t = opened o s (drop (t .mask) ms) (t .left)
+  abbrev pub openedAt : Step → Tally → ℕ
+  openedAt s t = opened o s (drop (t .mask) ms) (t .left)
 
   abbrev pub spent : Step → Tally → Tally
   spent s t =
@@ -48,7 +48,7 @@ module _ (o : Order) (ms zs : List ℕ) where
 
   -- the walk goes on from the place after the step
   abbrev pub then : Step → Course → Course
-  then s (running t) = courseOf (after (o .size) s (opens s t)) (spent s t)
+  then s (running t) = courseOf (following (o .size) s (openedAt s t)) (spent s t)
   then s (stopped j t) = stopped j t
 
   unfoldable pub walk : List Step → Course → Course

@@ -11,7 +11,7 @@ use Rattle.course.specs.declared.Place.{Place}
 use Rattle.course.specs.declared.Place.the-variants.{At, Stopped, Done}
 use Rattle.course.specs.declared.Progress.{Progress}
 use Rattle.course.specs.StepList.{stepList, maskCost, nonzeroCost, sums}
-use Rattle.course.specs.Next.{after, startOf, nextOf}
+use Rattle.course.specs.Next.{following, startOf, nextOf}
 use Rattle.course.proofs.Sums.{list-small, mask-small, nonzero-small}
 use Rattle.course.proofs.Along.{Along, Calm, first-calm, after-calm, start-along, along-in, room-along, turn-along, next-place, told, counted-done}
 use borrow.Author.Needs.{needs}
@@ -39,7 +39,7 @@ room c =
 
 -- the record is moved on to the place after the step
 moved : (c : tie.After-next Inv-loop μ-loop) → let q = c .before .before .before in
-    c .next .result .place ≡ after (q .before .before .before .before .args .o .size) (q .q .given .0 .0) 0
+    c .next .result .place ≡ following (q .before .before .before .before .args .o .size) (q .q .given .0 .0) 0
 moved c =
     let q = c .before .before .before in
     ap (λ (p : Progress). p .place) (c .next .ensures)

@@ -3,7 +3,7 @@
 use native.Mathlib.Omega.{arith}
 use borrow.Author.Tests.{lt-ltb, le-ltb, eq-eqb, ne-eqb}
 use Rattle.course.specs.declared.Step.the-variants.{Clear}
-use Rattle.course.specs.Next.{after}
+use Rattle.course.specs.Next.{following}
 use Rattle.course.proofs.Within.{within}
 use borrow.Author.Needs.{needs}
 use Rattle.course.proofs.place_after.Statement.{statement}
@@ -45,43 +45,43 @@ sub-t32 : tie.Need-sub-t32
 sub-t32 c = search needs
 
 returns : tie.Need-returns
-unfolding after
+unfolding following
 returns c = simp (c .before .before .s .given .1, lt-ltb _ _ (c .if1 .taken))
 
 returns-2 : tie.Need-returns-2
-unfolding after
+unfolding following
 returns-2 c = simp (c .before .before .s .given .1, le-ltb _ _ (c .if1 .left))
 
 returns-3 : tie.Need-returns-3
-unfolding after
+unfolding following
 returns-3 c = simp (c .before .before .s2 .given .1, eq-eqb _ _ (c .if2 .taken))
 
 returns-4 : tie.Need-returns-4
-unfolding after
+unfolding following
 returns-4 c = simp (c .before .before .s2 .given .1, ne-eqb _ _ (c .if2 .left))
 
 returns-5 : tie.Need-returns-5
-unfolding after
+unfolding following
 returns-5 c = simp (c .before .before .s3 .given .1, lt-ltb _ _ (c .if3 .taken))
 
 returns-6 : tie.Need-returns-6
-unfolding after
+unfolding following
 returns-6 c = simp (c .before .before .s3 .given .1, le-ltb _ _ (c .if3 .left))
 
 returns-7 : tie.Need-returns-7
-unfolding after
+unfolding following
 returns-7 c = simp (c .before .before .s4 .given .1, lt-ltb _ _ (c .if4 .taken))
 
 returns-8 : tie.Need-returns-8
-unfolding after
+unfolding following
 returns-8 c = simp (c .before .before .before .s4 .given .1, le-ltb _ _ (c .before .if4 .left)) (c .first-of .ensures)
 
 returns-9 : tie.Need-returns-9
-unfolding after
+unfolding following
 returns-9 c = simp (c .before .before .s5 .given .1, lt-ltb _ _ (c .if5 .taken))
 
 returns-10 : tie.Need-returns-10
-unfolding after
+unfolding following
 returns-10 c = simp (c .before .before .s5 .given .1, le-ltb _ _ (c .if5 .left))
 
 pub place-after-spec : {M : Type 1} → statement M

@@ -32,17 +32,17 @@ decimal-requires c κs = search needs
 array-share-prefix-digits : tie.Need-array-share-prefix-digits
 array-share-prefix-digits c = search needs
 
-slice-aggregate-put : tie.Need-slice-aggregate-put
-slice-aggregate-put c = search needs
+slice-aggregate-append : tie.Need-slice-aggregate-append
+slice-aggregate-append c = search needs
 
-put-requires : tie.Need-put-requires
-put-requires c κs = omega (arith, few (c .before .before))
+append-requires : tie.Need-append-requires
+append-requires c κs = omega (arith, few (c .before .before))
 
 slice-write-out : tie.Need-slice-write-out
-slice-write-out c = omega (arith, few (dec c), dec c .decimal .ensures .0 .1, c .before .before .put .ensures .next, c .before .before .put .kept .1 .0)
+slice-write-out c = omega (arith, few (dec c), dec c .decimal .ensures .0 .1, c .before .before .append .ensures .next, c .before .before .append .kept .1 .0)
 
 add-result : tie.Need-add-result
-add-result c = omega (arith, few (dec c), dec c .decimal .ensures .0 .1, c .before .before .put .ensures .next)
+add-result c = omega (arith, few (dec c), dec c .decimal .ensures .0 .1, c .before .before .append .ensures .next)
 
 same-length : tie.Need-same-length
 same-length c = search needs
@@ -51,7 +51,7 @@ returns : tie.Need-returns
 returns c =
     let d = dec c in
     let a = start d .args in
-    let w = c .before .before .put in
+    let w = c .before .before .append in
     let e = spells d in
     let n : length (decimal (a .n)) ≤ 20 = omega (arith, few d, d .decimal .ensures .0 .1, ap length e) in
     let wrote : Wrote (now (a .out)) (a .at) (decimal (a .n)) (w .last .1 .0) (w .result) = rw e at (w .ensures) in
@@ -63,8 +63,8 @@ number-spec =
     (tie.spec
     decimal-requires
     array-share-prefix-digits
-    slice-aggregate-put
-    put-requires
+    slice-aggregate-append
+    append-requires
     slice-write-out
     add-result
     same-length

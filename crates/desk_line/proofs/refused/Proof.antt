@@ -9,11 +9,11 @@ use borrow.Author.Needs.{needs}
 use Rattle.desk_line.proofs.refused.Statement.{statement}
 use Rattle.desk_line.proofs.refused.Tie as tie
 
-slice-aggregate-put : tie.Need-slice-aggregate-put
-slice-aggregate-put c = search needs
+slice-aggregate-append : tie.Need-slice-aggregate-append
+slice-aggregate-append c = search needs
 
-put-requires : tie.Need-put-requires
-put-requires c κs = search needs
+append-requires : tie.Need-append-requires
+append-requires c κs = search needs
 
 number-requires : tie.Need-number-requires
 number-requires c κs = search needs
@@ -25,9 +25,9 @@ returns : tie.Need-returns
 unfolding ascii refusedLine
 returns c =
     let n = c .before .before .number in
-    let p = c .before .before .before .before .before .before .put in
+    let p = c .before .before .before .before .before .before .append in
     made-front (rw append-assoc (wrote-then (p .ensures) (n .ensures .0) (omega arith)))
 
 pub refused-spec : {M : Type 1} → statement M
 refused-spec =
-    tie.close (tie.spec slice-aggregate-put put-requires number-requires same-length returns)
+    tie.close (tie.spec slice-aggregate-append append-requires number-requires same-length returns)

@@ -13,29 +13,29 @@ use Rattle.row.proofs.double_rows.Statement.{statement}
 use Rattle.row.proofs.double_rows.Tie as tie
 
 abbrev Inv-loop : tie.InvT-loop
-Inv-loop width r m₀ e q₀ m q = (q ≤ e) × (length m ≡ length m₀) × (m ≡ run (doubleTurn width r) q m₀)
+Inv-loop bits r m₀ e q₀ m q = (q ≤ e) × (length m ≡ length m₀) × (m ≡ run (doubleTurn bits r) q m₀)
 
 abbrev μ-loop : tie.MeasureT-loop
-μ-loop width r m₀ e q₀ m q = e - q
+μ-loop bits r m₀ e q₀ m q = e - q
 
 -- one row more than are doubled
-more : (width r l : ℕ) → 1 ≤ width → width * r ≤ l → (width - 1) * r + r ≤ l
-more width r l h g =
-    let e : suc (width - 1) ≡ width = omega arith in
-    let m : suc (width - 1) * r ≡ width * r = ap (λ (i : ℕ). i * r) e in
-    omega (arith, suc-mul (width - 1) r)
+more : (bits r l : ℕ) → 1 ≤ bits → bits * r ≤ l → (bits - 1) * r + r ≤ l
+more bits r l h g =
+    let e : suc (bits - 1) ≡ bits = omega arith in
+    let m : suc (bits - 1) * r ≡ bits * r = ap (λ (i : ℕ). i * r) e in
+    omega (arith, suc-mul (bits - 1) r)
 
 room : (c : tie.In-loop Inv-loop μ-loop) → c .before .loop .q + c .before .before .before .args .r < length (c .before .loop .m)
 room c =
     let x = c .before .before .before in
-    omega (arith, more (x .args .width) (x .args .r) (length (x .args .m .now)) (x .pre .0) (x .pre .3))
+    omega (arith, more (x .args .bits) (x .args .r) (length (x .args .m .now)) (x .pre .0) (x .pre .3))
 
 sub-e : tie.Need-sub-e Inv-loop μ-loop
 sub-e c = search needs
 
 mul-e : tie.Need-mul-e Inv-loop μ-loop
 mul-e c =
-    let x = c .before in omega (arith, more (x .args .width) (x .args .r) (length (x .args .m .now)) (x .pre .0) (x .pre .3))
+    let x = c .before in omega (arith, more (x .args .bits) (x .args .r) (length (x .args .m .now)) (x .pre .0) (x .pre .3))
 
 loop-holds : tie.Need-loop-holds Inv-loop μ-loop
 loop-holds c = (search needs, search needs, run-none _ _)

@@ -21,13 +21,13 @@ unfolding doubled
 returns c =
     let a = c .before .args in
     let e : a .x * 2 % 256 % 16 ≡ a .x * 2 % 16 = omega arith in
-    rw (eq-eqb (a .width) 4 (c .if1 .taken)) (ap (λ (y : ℕ). bitXor y (a .x / 8 % 2 * 3)) e)
+    rw (eq-eqb (a .bits) 4 (c .if1 .taken)) (ap (λ (y : ℕ). bitXor y (a .x / 8 % 2 * 3)) e)
 
 returns-2 : tie.Need-returns-2
 unfolding doubled
 returns-2 c =
     let a = c .before .args in
-    rw (ne-eqb (a .width) 4 (c .if1 .left)) refl
+    rw (ne-eqb (a .bits) 4 (c .if1 .left)) refl
 
 pub doubled-spec : {M : Type 1} → statement M
 doubled-spec = tie.close (tie.spec mul-result mul-result-2 returns returns-2)

@@ -6,30 +6,30 @@ use native.Mathlib.Omega.{arith}
 use lib.ListN.{length, getD}
 use Rattle.sharing.specs.Run.{run}
 use Rattle.sharing.proofs.Loops.{run-none, run-next, run-done}
-use Rattle.row.specs.Code.Gather.{gatherTurn, gathered}
+use Rattle.row.specs.Code.Gather.{gatherTurn, gatheredByte}
 use Rattle.row.proofs.Places.{place-in, row-room}
 use borrow.Author.Needs.{needs}
 use Rattle.row.proofs.gather_byte.Statement.{statement}
 use Rattle.row.proofs.gather_byte.Tie as tie
 
 abbrev Inv-loop : tie.InvT-loop
-Inv-loop n l w c k o q v₀ e i₀ v i = (i ≤ e) × (v ≡ run (gatherTurn n l w c k o q) i (getD c o 0))
+Inv-loop n l span c k o q v₀ e i₀ v i = (i ≤ e) × (v ≡ run (gatherTurn n l span c k o q) i (getD c o 0))
 
 abbrev μ-loop : tie.MeasureT-loop
-μ-loop n l w c k o q v₀ e i₀ v i = e - i
+μ-loop n l span c k o q v₀ e i₀ v i = e - i
 
 -- the pair's two terms, and what chooses it, are there
-first : (c : tie.In-loop Inv-loop μ-loop) → let x = c .before .before .before .args in (x .n - 1 - c .before .loop .i) * x .w + x .o < length (x .c .now)
-first c = let x = c .before .before .before .args in omega (arith, place-in (x .n) (x .w) (x .n - 1 - c .before .loop .i) (x .o) (omega arith) (omega arith))
+first : (c : tie.In-loop Inv-loop μ-loop) → let x = c .before .before .before .args in (x .n - 1 - c .before .loop .i) * x .span + x .o < length (x .c .now)
+first c = let x = c .before .before .before .args in omega (arith, place-in (x .n) (x .span) (x .n - 1 - c .before .loop .i) (x .o) (omega arith) (omega arith))
 
-second : (c : tie.In-loop Inv-loop μ-loop) → let x = c .before .before .before .args in (c .before .loop .i + 1) * x .w + x .o < length (x .c .now)
-second c = let x = c .before .before .before .args in omega (arith, place-in (x .n) (x .w) (c .before .loop .i + 1) (x .o) (omega arith) (omega arith))
+second : (c : tie.In-loop Inv-loop μ-loop) → let x = c .before .before .before .args in (c .before .loop .i + 1) * x .span + x .o < length (x .c .now)
+second c = let x = c .before .before .before .args in omega (arith, place-in (x .n) (x .span) (c .before .loop .i + 1) (x .o) (omega arith) (omega arith))
 
 choice : (c : tie.In-loop Inv-loop μ-loop) → let x = c .before .before .before .args in (x .n - 1 - c .before .loop .i) * x .l + x .q < length (x .k .now)
 choice c = let x = c .before .before .before .args in omega (arith, place-in (x .n) (x .l) (x .n - 1 - c .before .loop .i) (x .q) (omega arith) (omega arith))
 
 shared-slice-read-v : tie.Need-shared-slice-read-v Inv-loop μ-loop
-shared-slice-read-v c = let x = c .before .args in omega (arith, place-in (x .n) (x .w) 0 (x .o) (omega arith) (omega arith))
+shared-slice-read-v c = let x = c .before .args in omega (arith, place-in (x .n) (x .span) 0 (x .o) (omega arith) (omega arith))
 
 sub-e : tie.Need-sub-e Inv-loop μ-loop
 sub-e c = search needs
@@ -56,7 +56,7 @@ add-h-2 : tie.Need-add-h-2 Inv-loop μ-loop
 add-h-2 c = omega (arith, second c)
 
 sub-h : tie.Need-sub-h Inv-loop μ-loop
-sub-h c = let x = c .before .before .before .args in omega (arith, row-room (x .n) (c .before .loop .i) (x .w) (omega arith))
+sub-h c = let x = c .before .before .before .args in omega (arith, row-room (x .n) (c .before .loop .i) (x .span) (omega arith))
 
 mul-t : tie.Need-mul-t Inv-loop μ-loop
 mul-t c = omega (arith, choice c)
@@ -84,7 +84,7 @@ unfolding gatherTurn
 loop-again c = let l = c .before .before .before .before .loop in (search needs, run-next _ _ _ _ _ (l .inv .1) refl)
 
 returns : tie.Need-returns Inv-loop μ-loop
-unfolding gathered
+unfolding gatheredByte
 returns c = run-done _ _ _ _ _ (c .before .loop .inv .1) (omega arith)
 
 pub gather-byte-spec : {M : Type 1} → statement M

@@ -6,16 +6,16 @@ use native.Mathlib.Omega.{arith}
 use lib.ListN.{length}
 use Rattle.sharing.specs.Run.{run}
 use Rattle.sharing.proofs.Loops.{run-none, run-next, run-done}
-use Rattle.row.specs.Code.Products.{productTurn}
+use Rattle.row.specs.Code.Products.{productByteTurn}
 use borrow.Author.Needs.{needs}
 use Rattle.row.proofs.product_block.Statement.{statement}
 use Rattle.row.proofs.product_block.Tie as tie
 
 abbrev Inv-loop : tie.InvT-loop
-Inv-loop width n l r w c₀ b m at q₀ c q = (q ≤ l) × (length c ≡ length c₀) × (c ≡ run (productTurn width n r w b m at) q c₀)
+Inv-loop bits n l r span c₀ b m at q₀ c q = (q ≤ l) × (length c ≡ length c₀) × (c ≡ run (productByteTurn bits n r span b m at) q c₀)
 
 abbrev μ-loop : tie.MeasureT-loop
-μ-loop width n l r w c₀ b m at q₀ c q = l - q
+μ-loop bits n l r span c₀ b m at q₀ c q = l - q
 
 loop-holds : tie.Need-loop-holds Inv-loop μ-loop
 loop-holds c = (search needs, search needs, run-none _ _)

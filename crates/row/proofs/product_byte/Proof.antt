@@ -15,20 +15,20 @@ use Rattle.row.proofs.product_byte.Statement.{statement}
 use Rattle.row.proofs.product_byte.Tie as tie
 
 abbrev Inv-loop : tie.InvT-loop
-Inv-loop width n r w c₀ m y o q at₀ d₀ c at d =
-    (d ≤ n) × (at ≡ d * w + o) × (length c ≡ length c₀) × (c ≡ run (byteTurn width n r w m y o q) d c₀)
+Inv-loop bits n r span c₀ m y o q at₀ d₀ c at d =
+    (d ≤ n) × (at ≡ d * span + o) × (length c ≡ length c₀) × (c ≡ run (byteTurn bits n r span m y o q) d c₀)
 
 abbrev μ-loop : tie.MeasureT-loop
-μ-loop width n r w c₀ m y o q at₀ d₀ c at d = n - d
+μ-loop bits n r span c₀ m y o q at₀ d₀ c at d = n - d
 
 -- the byte's place in one more row is there
-room : (c : tie.In-loop Inv-loop μ-loop) → let x = c .before .before .before .before .args in c .before .loop .d * x .w + x .w ≤ x .n * x .w
+room : (c : tie.In-loop Inv-loop μ-loop) → let x = c .before .before .before .before .args in c .before .loop .d * x .span + x .span ≤ x .n * x .span
 room c =
     let x = c .before .before .before .before .args in
-    let l = c .before .loop in taken-room (l .d * x .w) (l .d) (x .w) (x .n) refl (omega arith) (omega arith)
+    let l = c .before .loop in taken-room (l .d * x .span) (l .d) (x .span) (x .n) refl (omega arith) (omega arith)
 
-small : (c : tie.In-loop Inv-loop μ-loop) → let x = c .before .before .before .before .args in x .n * x .w ≤ workRoom4
-small c = let x = c .before .before .before .before .args in mul-le-mul {n₁ = x .n} {m₁ = x .w} {n₂ = 4} {m₂ = rowRoom} (omega arith) (omega arith)
+small : (c : tie.In-loop Inv-loop μ-loop) → let x = c .before .before .before .before .args in x .n * x .span ≤ workRoom4
+small c = let x = c .before .before .before .before .args in mul-le-mul {n₁ = x .n} {m₁ = x .span} {n₂ = 4} {m₂ = rowRoom} (omega arith) (omega arith)
 
 loop-holds : tie.Need-loop-holds Inv-loop μ-loop
 loop-holds c = (search needs, omega arith, search needs, run-none _ _)
@@ -62,7 +62,7 @@ unfolding byteTurn
 loop-again c =
     let l = c .before .before .before .loop in
     let x = c .before .before .before .before .before .before .args in
-    (search needs, omega (arith, taken-more (l .d * x .w) (l .d) (x .w) refl), simp length-set (l .inv .2), run-next _ _ _ _ _ (l .inv .3) (ap₂ (λ (k v : ℕ). xorAt k v (l .c)) (l .inv .1) (c .before .term .ensures)))
+    (search needs, omega (arith, taken-more (l .d * x .span) (l .d) (x .span) refl), simp length-set (l .inv .2), run-next _ _ _ _ _ (l .inv .3) (ap₂ (λ (k v : ℕ). xorAt k v (l .c)) (l .inv .1) (c .before .term .ensures)))
 
 same-length : tie.Need-same-length Inv-loop μ-loop
 same-length c = search needs

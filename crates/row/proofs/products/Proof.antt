@@ -12,10 +12,10 @@ use Rattle.row.proofs.products.Statement.{statement}
 use Rattle.row.proofs.products.Tie as tie
 
 abbrev Inv-loop : tie.InvT-loop
-Inv-loop width n l r blocks w c₀ b m at₀ u₀ c at u = (u ≤ blocks) × (at ≡ u * l) × (length c ≡ length c₀) × (c ≡ run (blockProducts width n l r w b m) u c₀)
+Inv-loop bits n l r blocks span c₀ b m at₀ u₀ c at u = (u ≤ blocks) × (at ≡ u * l) × (length c ≡ length c₀) × (c ≡ run (blockProducts bits n l r span b m) u c₀)
 
 abbrev μ-loop : tie.MeasureT-loop
-μ-loop width n l r blocks w c₀ b m at₀ u₀ c at u = blocks - u
+μ-loop bits n l r blocks span c₀ b m at₀ u₀ c at u = blocks - u
 
 -- one more block is there
 room : (c : tie.In-loop Inv-loop μ-loop) → let x = c .before .before .before .before .before .args in c .before .loop .at + x .l ≤ x .blocks * x .l

@@ -12,13 +12,13 @@ use Rattle.row.proofs.spread.Statement.{statement}
 use Rattle.row.proofs.spread.Tie as tie
 
 abbrev Inv-loop : tie.InvT-loop
-Inv-loop n np columns w c₀ z a₀ b₀ u₀ c a b u = (u ≤ columns) × (a ≡ u * n) × (b ≡ u * pairs n) × (length c ≡ length c₀) × (c ≡ run (spreadColumn n w z) u c₀)
+Inv-loop n np columns span c₀ z a₀ b₀ u₀ c a b u = (u ≤ columns) × (a ≡ u * n) × (b ≡ u * pairs n) × (length c ≡ length c₀) × (c ≡ run (spreadColumn n span z) u c₀)
 
 abbrev μ-loop : tie.MeasureT-loop
-μ-loop n np columns w c₀ z a₀ b₀ u₀ c a b u = columns - u
+μ-loop n np columns span c₀ z a₀ b₀ u₀ c a b u = columns - u
 
 -- the bytes and the draws of one more column are there
-bytes : (c : tie.In-loop Inv-loop μ-loop) → let x = c .before .before .before .before .args in c .before .loop .a + x .n ≤ x .w
+bytes : (c : tie.In-loop Inv-loop μ-loop) → let x = c .before .before .before .before .args in c .before .loop .a + x .n ≤ x .span
 bytes c =
     let l = c .before .loop in
     let x = c .before .before .before .before .args in taken-room (l .a) (l .u) (x .n) (x .columns) (l .inv .1) (omega arith) (omega arith)

@@ -14,10 +14,10 @@ use Rattle.row.proofs.spread_column.Statement.{statement}
 use Rattle.row.proofs.spread_column.Tie as tie
 
 abbrev Inv-loop : tie.InvT-loop
-Inv-loop n w c₀ a z b at₀ i₀ c at i = (i ≤ n) × (at ≡ before n i) × (length c ≡ length c₀) × (c ≡ run (pairsOf (spreadTurn w z a b) n) i c₀)
+Inv-loop n span c₀ a z b at₀ i₀ c at i = (i ≤ n) × (at ≡ before n i) × (length c ≡ length c₀) × (c ≡ run (pairsOf (spreadTurn span z a b) n) i c₀)
 
 abbrev μ-loop : tie.MeasureT-loop
-μ-loop n w c₀ a z b at₀ i₀ c at i = n - i
+μ-loop n span c₀ a z b at₀ i₀ c at i = n - i
 
 -- the draws of i's pairs are there
 room : (c : tie.In-loop Inv-loop μ-loop) → let x = c .before .before .before .before .args in x .b + before (x .n) (suc (c .before .loop .i)) ≤ length (x .z .now)

@@ -14,19 +14,19 @@ use Rattle.row.proofs.spread_of.Statement.{statement}
 use Rattle.row.proofs.spread_of.Tie as tie
 
 abbrev Inv-loop : tie.InvT-loop
-Inv-loop n w c₀ a z b i at m p f v₀ c v = (v ≤ m) × (length c ≡ length c₀) × (c ≡ run (pairTurn (spreadTurn w z a b) n i) v c₀)
+Inv-loop n span c₀ a z b i at m p f v₀ c v = (v ≤ m) × (length c ≡ length c₀) × (c ≡ run (pairTurn (spreadTurn span z a b) n i) v c₀)
 
 abbrev μ-loop : tie.MeasureT-loop
-μ-loop n w c₀ a z b i at m p f v₀ c v = m - v
+μ-loop n span c₀ a z b i at m p f v₀ c v = m - v
 
 -- the places of share i and of the pair, and the draw, are there
 own : (c : tie.Start Inv-loop μ-loop) → let x = c .args in x .a + x .i < length (x .c .now)
-own c = let x = c .args in omega (arith, place-in (x .n) (x .w) 0 (x .a + x .i) (omega arith) (omega arith))
+own c = let x = c .args in omega (arith, place-in (x .n) (x .span) 0 (x .a + x .i) (omega arith) (omega arith))
 
-room : (c : tie.In-loop Inv-loop μ-loop) → let x = c .before .before .args in (c .before .loop .v + 1) * x .w + (x .a + x .i + (c .before .loop .v + 1)) < length (x .c .now)
+room : (c : tie.In-loop Inv-loop μ-loop) → let x = c .before .before .args in (c .before .loop .v + 1) * x .span + (x .a + x .i + (c .before .loop .v + 1)) < length (x .c .now)
 room c =
     let x = c .before .before .args in
-    omega (arith, place-in (x .n) (x .w) (c .before .loop .v + 1) (x .a + x .i + (c .before .loop .v + 1)) (omega arith) (omega arith))
+    omega (arith, place-in (x .n) (x .span) (c .before .loop .v + 1) (x .a + x .i + (c .before .loop .v + 1)) (omega arith) (omega arith))
 
 draw : (c : tie.In-loop Inv-loop μ-loop) → let x = c .before .before .args in x .b + x .at + c .before .loop .v < length (x .z .now)
 draw c = let x = c .before .before .args in omega (arith, pairs-room (x .n) (x .i) (omega arith))
@@ -92,7 +92,7 @@ loop-again c =
     let s = c .before .before .before .before .before .before in
     let x = s .args in
     let d : (x .i + 1 + l .v) - x .i ≡ l .v + 1 = omega arith in
-    let g : (l .v + 1) * x .w + (x .a + x .i) + (l .v + 1) ≡ (l .v + 1) * x .w + (x .a + (x .i + 1 + l .v)) = omega arith in
+    let g : (l .v + 1) * x .span + (x .a + x .i) + (l .v + 1) ≡ (l .v + 1) * x .span + (x .a + (x .i + 1 + l .v)) = omega arith in
     let k : x .b + x .at + l .v ≡ x .b + (before (x .n) (x .i) + l .v) = omega arith in
     (search needs, simp length-set (l .inv .1), run-next _ _ _ _ _ (l .inv .2) (rw (d, g, k)))
 

@@ -15,36 +15,36 @@ use Rattle.row.proofs.term.Statement.{statement}
 use Rattle.row.proofs.term.Tie as tie
 
 abbrev Inv-loop : tie.InvT-loop
-Inv-loop width r m g y v₀ h₀ at₀ t₀ v h at t =
-    (t ≤ width) × (at ≡ t * r + g) × (bitXor v (term m r (width - t) at h) ≡ term m r width g y)
+Inv-loop bits r m g y v₀ h₀ at₀ t₀ v h at t =
+    (t ≤ bits) × (at ≡ t * r + g) × (bitXor v (term m r (bits - t) at h) ≡ term m r bits g y)
 
 abbrev μ-loop : tie.MeasureT-loop
-μ-loop width r m g y v₀ h₀ at₀ t₀ v h at t = width - t
+μ-loop bits r m g y v₀ h₀ at₀ t₀ v h at t = bits - t
 
 -- the turn's code is the definition's step
-turn : (width r : ℕ) (m : List ℕ) (v h at t : ℕ) → t < width
-    → bitXor (bitXor v (bitAnd h 1 * getD m at 0)) (term m r (width - (t + 1)) (at + r) (h / 2)) ≡ bitXor v (term m r (width - t) at h)
+turn : (bits r : ℕ) (m : List ℕ) (v h at t : ℕ) → t < bits
+    → bitXor (bitXor v (bitAnd h 1 * getD m at 0)) (term m r (bits - (t + 1)) (at + r) (h / 2)) ≡ bitXor v (term m r (bits - t) at h)
 unfolding term
-turn width r m v h at t l =
-    let e : suc (width - (t + 1)) ≡ width - t = omega arith in
-    xor-assoc v (bitAnd h 1 * getD m at 0) (term m r (width - (t + 1)) (at + r) (h / 2))
-    ∙ ap (λ (x : ℕ). bitXor v (bitXor (x * getD m at 0) (term m r (width - (t + 1)) (at + r) (h / 2)))) (and-mask h 1)
+turn bits r m v h at t l =
+    let e : suc (bits - (t + 1)) ≡ bits - t = omega arith in
+    xor-assoc v (bitAnd h 1 * getD m at 0) (term m r (bits - (t + 1)) (at + r) (h / 2))
+    ∙ ap (λ (x : ℕ). bitXor v (bitXor (x * getD m at 0) (term m r (bits - (t + 1)) (at + r) (h / 2)))) (and-mask h 1)
     ∙ ap (λ (k : ℕ). bitXor v (term m r k at h)) e
 
 -- the place in one more row is there
-room : (c : tie.In-loop Inv-loop μ-loop) → let x = c .before .before .args in c .before .loop .t * x .r + x .r ≤ x .width * x .r
+room : (c : tie.In-loop Inv-loop μ-loop) → let x = c .before .before .args in c .before .loop .t * x .r + x .r ≤ x .bits * x .r
 room c =
     let x = c .before .before .args in
-    let l = c .before .loop in taken-room (l .t * x .r) (l .t) (x .r) (x .width) refl (omega arith) (omega arith)
+    let l = c .before .loop in taken-room (l .t * x .r) (l .t) (x .r) (x .bits) refl (omega arith) (omega arith)
 
-small : (c : tie.In-loop Inv-loop μ-loop) → let x = c .before .before .args in x .width * x .r ≤ 512
+small : (c : tie.In-loop Inv-loop μ-loop) → let x = c .before .before .args in x .bits * x .r ≤ 512
 small c =
     let x = c .before .before .args in
-    let g = c .before .before .pre in mul-le-mul {n₁ = x .width} {m₁ = x .r} {n₂ = 8} {m₂ = 64} (g .0) (g .1)
+    let g = c .before .before .pre in mul-le-mul {n₁ = x .bits} {m₁ = x .r} {n₂ = 8} {m₂ = 64} (g .0) (g .1)
 
 loop-holds : tie.Need-loop-holds Inv-loop μ-loop
 loop-holds c =
-    let e : c .args .width - 0 ≡ c .args .width = omega arith in (search needs, omega arith, ap (λ (k : ℕ). term (c .args .m .now) (c .args .r) k (c .args .g) (c .args .y)) e)
+    let e : c .args .bits - 0 ≡ c .args .bits = omega arith in (search needs, omega arith, ap (λ (k : ℕ). term (c .args .m .now) (c .args .r) k (c .args .g) (c .args .y)) e)
 
 shared-slice-read-v : tie.Need-shared-slice-read-v Inv-loop μ-loop
 shared-slice-read-v c = omega (arith, room (c .before))
@@ -69,14 +69,14 @@ loop-again : tie.Need-loop-again Inv-loop μ-loop
 loop-again c =
     let s = c .before .before .loop in
     let x = c .before .before .before .args in
-    (search needs, omega (arith, taken-more (s .t * x .r) (s .t) (x .r) refl), turn (x .width) (x .r) (x .m .now) (s .v) (s .h) (s .at) (s .t) (omega arith) ∙ s .inv .2)
+    (search needs, omega (arith, taken-more (s .t * x .r) (s .t) (x .r) refl), turn (x .bits) (x .r) (x .m .now) (s .v) (s .h) (s .at) (s .t) (omega arith) ∙ s .inv .2)
 
 returns : tie.Need-returns Inv-loop μ-loop
 unfolding term
 returns c =
     let s = c .before .loop in
     let x = c .before .before .args in
-    let e : x .width - s .t ≡ 0 = omega arith in
+    let e : x .bits - s .t ≡ 0 = omega arith in
     sym (xor-zero-r (s .v)) ∙ ap (λ (k : ℕ). bitXor (s .v) (term (x .m .now) (x .r) k (s .at) (s .h))) (sym e) ∙ s .inv .2
 
 pub term-spec : {M : Type 1} → statement M

@@ -1,4 +1,4 @@
--- From the n rows of w bytes, the shares of the products: byte o of row 0, joined by the pairs that end at its share.
+-- From the n rows of span bytes, the shares of the products: byte o of row 0, joined by the pairs that end at its share.
 -- Assumes nothing.
 use Prim.Native.Nat.{ℕ, _+_, _-_, _*_, _%_}
 use mathlib.Core.List.{List}
@@ -10,22 +10,22 @@ use Rattle.sharing.specs.Run.{run}
 
 -- the pair of byte o's share and the share d = n - 1 - i before it: k is 0 where there is none
 unfoldable pub gatherTurn : ℕ → ℕ → ℕ → List ℕ → List ℕ → ℕ → ℕ → ℕ → ℕ → ℕ
-gatherTurn n l w c k o q i v =
+gatherTurn n l span c k o q i v =
     let d = n - 1 - i in
-    bitXor v (bitAnd (bitXor (getD c (d * w + o) 0) (getD c ((i + 1) * w + o - d) 0)) (getD k (d * l + q) 0))
+    bitXor v (bitAnd (bitXor (getD c (d * span + o) 0) (getD c ((i + 1) * span + o - d) 0)) (getD k (d * l + q) 0))
 
-unfoldable pub gathered : ℕ → ℕ → ℕ → List ℕ → List ℕ → ℕ → ℕ → ℕ
-gathered n l w c k o q = run (gatherTurn n l w c k o q) (n - 1) (getD c o 0)
+unfoldable pub gatheredByte : ℕ → ℕ → ℕ → List ℕ → List ℕ → ℕ → ℕ → ℕ
+gatheredByte n l span c k o q = run (gatherTurn n l span c k o q) (n - 1) (getD c o 0)
 
 -- byte q of the block that begins at `at`
 abbrev pub blockTurn : ℕ → ℕ → ℕ → List ℕ → List ℕ → ℕ → ℕ → List ℕ → List ℕ
-blockTurn n l w c k at q out = set out (at + q) (gathered n l w c k (at + q) q)
+blockTurn n l span c k at q out = set out (at + q) (gatheredByte n l span c k (at + q) q)
 
 unfoldable pub gatherBlock : ℕ → ℕ → ℕ → List ℕ → List ℕ → ℕ → List ℕ → List ℕ
-gatherBlock n l w c k u out = run (blockTurn n l w c k (u * l)) l out
+gatherBlock n l span c k u out = run (blockTurn n l span c k (u * l)) l out
 
 unfoldable pub gatherAll : ℕ → ℕ → ℕ → ℕ → List ℕ → List ℕ → List ℕ → List ℕ
-gatherAll n l blocks w c k out = run (gatherBlock n l w c k) blocks out
+gatherAll n l blocks span c k out = run (gatherBlock n l span c k) blocks out
 
 -- k at row d and byte q of a block, whose entries have n bytes each: all ones where the byte d before is of the same entry, and else 0
 unfoldable pub later : ℕ → ℕ → ℕ → ℕ

@@ -1,4 +1,4 @@
--- Each byte of the row, times each share of the factor, joins one of the n rows of w bytes.
+-- Each byte of the row, times each share of the factor, joins one of the n rows of span bytes.
 -- Assumes nothing.
 use Prim.Native.Nat.{ℕ, zero, suc, _+_, _-_, _*_, _/_, _%_}
 use mathlib.Core.List.{List}
@@ -14,17 +14,17 @@ term m r (suc k) g y = bitXor (y % 2 * getD m g 0) (term m r k (g + r) (y / 2))
 
 -- byte o of the row, y, which is byte q of its block: row d takes its product with the share that stands d places before it
 unfoldable pub byteTurn : ℕ → ℕ → ℕ → ℕ → List ℕ → ℕ → ℕ → ℕ → ℕ → List ℕ → List ℕ
-byteTurn width n r w m y o q d c = xorAt (d * w + o) (term m r width (q + n - d) y) c
+byteTurn bits n r span m y o q d c = xorAt (d * span + o) (term m r bits (q + n - d) y) c
 
 unfoldable pub byteProducts : ℕ → ℕ → ℕ → ℕ → List ℕ → ℕ → ℕ → ℕ → List ℕ → List ℕ
-byteProducts width n r w m y o q c = run (byteTurn width n r w m y o q) n c
+byteProducts bits n r span m y o q c = run (byteTurn bits n r span m y o q) n c
 
 -- byte q of the block that begins at `at`
-abbrev pub productTurn : ℕ → ℕ → ℕ → ℕ → List ℕ → List ℕ → ℕ → ℕ → List ℕ → List ℕ
-productTurn width n r w b m at q c = byteProducts width n r w m (getD b (at + q) 0) (at + q) q c
+abbrev pub productByteTurn : ℕ → ℕ → ℕ → ℕ → List ℕ → List ℕ → ℕ → ℕ → List ℕ → List ℕ
+productByteTurn bits n r span b m at q c = byteProducts bits n r span m (getD b (at + q) 0) (at + q) q c
 
 unfoldable pub blockProducts : ℕ → ℕ → ℕ → ℕ → ℕ → List ℕ → List ℕ → ℕ → List ℕ → List ℕ
-blockProducts width n l r w b m u c = run (productTurn width n r w b m (u * l)) l c
+blockProducts bits n l r span b m u c = run (productByteTurn bits n r span b m (u * l)) l c
 
 unfoldable pub allProducts : ℕ → ℕ → ℕ → ℕ → ℕ → ℕ → List ℕ → List ℕ → List ℕ → List ℕ
-allProducts width n l r blocks w b m c = run (blockProducts width n l r w b m) blocks c
+allProducts bits n l r blocks span b m c = run (blockProducts bits n l r span b m) blocks c

@@ -9,10 +9,10 @@ use lib.ListN.{getD, set}
 use Rattle.field.specs.Field.{pick}
 use Rattle.sharing.specs.Run.{run}
 
--- an element a times the polynomial x, in the field of width bits (4 or 8)
+-- an element a times the polynomial x, in the field of w bits (4 or 8)
 unfoldable pub doubled : ℕ → ℕ → ℕ
-doubled width a =
-    pick (eqb width 4) (bitXor (a * 2 % 16) (a / 8 % 2 * 3)) (bitXor (a * 2 % 256) (a / 128 % 2 * 27))
+doubled bits a =
+    pick (eqb bits 4) (bitXor (a * 2 % 16) (a / 8 % 2 * 3)) (bitXor (a * 2 % 256) (a / 128 % 2 * 27))
 
 abbrev pub onceTurn : List ℕ → ℕ → ℕ → List ℕ → List ℕ
 onceTurn a at s m = set m (at + s) (getD a s 0)
@@ -25,7 +25,7 @@ repeated n turns a m = run (repeatTurn n a) turns m
 
 -- byte q doubled, r places on
 unfoldable pub doubleTurn : ℕ → ℕ → ℕ → List ℕ → List ℕ
-doubleTurn width r q m = set m (q + r) (doubled width (getD m q 0))
+doubleTurn bits r q m = set m (q + r) (doubled bits (getD m q 0))
 
 unfoldable pub doubledRows : ℕ → ℕ → List ℕ → List ℕ
-doubledRows width r m = run (doubleTurn width r) ((width - 1) * r) m
+doubledRows bits r m = run (doubleTurn bits r) ((bits - 1) * r) m

@@ -5,17 +5,17 @@ use Prim.Native.Nat.{ℕ, _+_, _-_, _*_, _≤_}
 use native.Mathlib.Omega.{arith}
 use native.Mathlib.Nat.{mul-le-mul}
 use Rattle.sharing.specs.Bounds.{mostRows, mostWidth, mostEntries}
-use Rattle.table.specs.Layout.{cell, Sizes, Place}
+use Rattle.table.specs.Layout.{cell, Bounded, Inside}
 use borrow.Author.Needs.{needs}
 use Rattle.table.proofs.cell.Statement.{statement}
 use Rattle.table.proofs.cell.Tie as tie
 
-module _ (n rows w r c : ℕ) (S : Sizes n rows w) (P : Place rows w r c) where
+module _ (n rows w r c : ℕ) (S : Bounded n rows w) (P : Inside rows w r c) where
   row-small : (r - 1) * w ≤ mostEntries
   row-small = mul-le-mul {n₁ = r - 1} {m₁ = w} {n₂ = mostRows} {m₂ = mostWidth} (omega arith) (omega arith)
 
-  cell-small : ((r - 1) * w + (c - 1)) * n ≤ 37636
-  cell-small = mul-le-mul {n₁ = (r - 1) * w + (c - 1)} {m₁ = n} {n₂ = 9409} {m₂ = 4} (omega (arith, row-small)) (omega arith)
+  cell-small : ((r - 1) * w + (c - 1)) * n ≤ (mostEntries + mostWidth) * 4
+  cell-small = mul-le-mul {n₁ = (r - 1) * w + (c - 1)} {m₁ = n} {n₂ = mostEntries + mostWidth} {m₂ = 4} (omega (arith, row-small)) (omega arith)
 
 sub-result : tie.Need-sub-result
 sub-result c = search needs

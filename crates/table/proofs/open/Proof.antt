@@ -6,7 +6,7 @@ use native.Mathlib.Omega.{arith}
 use lib.ListN.{length, length-append}
 use lib.Seq.{length-take-le, take-at}
 use Rattle.table.specs.Costs.{openCost}
-use Rattle.table.specs.Steps.{opens}
+use Rattle.table.specs.Steps.{unknownAt}
 use Rattle.table.proofs.Parts.{part-lent}
 use Rattle.table.proofs.Cells.{cell-in}
 use Rattle.table.proofs.Lent.{lent-length}
@@ -55,7 +55,7 @@ unfolding openCost
 opening-requires c κs = let e = copied (c .before .before) in rw (take-at _ _ _ e, e) (omega arith)
 
 returns : tie.Need-returns
-unfolding opens
+unfolding unknownAt
 returns c =
     let e = c .before .before .before .before in
     rw (take-at _ _ _ (copied e), e .copy-into .ensures, part-lent, e .before .before .before .cell .ensures) at (c .before .opening .ensures .0)

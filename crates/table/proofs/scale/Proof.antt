@@ -9,7 +9,7 @@ use Rattle.field.specs.Field.{fieldOf}
 use Rattle.sharing.specs.Rules.{factors, fourOf, inversionDraws}
 use Rattle.sharing.proofs.Loops.{rest}
 use Rattle.sharing.specs.Bounds.{mostWidth}
-use Rattle.table.specs.Layout.{cell, tableBytes, entry, columnsFrom, rowFrom, putRow, Sizes, Place}
+use Rattle.table.specs.Layout.{cell, tableBytes, entry, columnsFrom, rowFrom, putRow, Bounded, Inside}
 use Rattle.table.specs.Costs.{scaleNonzero}
 use Rattle.table.specs.Steps.{scale, scaleAll}
 use Rattle.table.proofs.Parts.{part-lent, put-lent}
@@ -54,7 +54,7 @@ found c =
 -- ---- scale_all's call, over its numbers alone: in the needs themselves every fact of the code stands by, and a search looks through all
 
 -- what it asks
-asked : (n rows w r j p d k : ℕ) (ds t : List ℕ) → Sizes n rows w → Place rows w r j → length t ≡ tableBytes n rows w → p ≡ cell n w r j
+asked : (n rows w r j p d k : ℕ) (ds t : List ℕ) → Bounded n rows w → Inside rows w r j → length t ≡ tableBytes n rows w → p ≡ cell n w r j
     → d ≡ inversionDraws n → k ≡ n → inversionDraws n + n * (columnsFrom w j * (n - 1)) ≤ length ds
     → ((2 ≤ k) × (k ≤ 4) × (columnsFrom w j ≤ mostWidth))
     × ((length (take (p + columnsFrom w j * n - p) (drop p t)) ≡ columnsFrom w j * k) × (k * (columnsFrom w j * (k - 1)) ≤ length (take (length ds - d) (drop d ds))))

@@ -3,7 +3,7 @@
 use Prim.Native.Nat.{_≤_}
 use native.Mathlib.Omega.{arith}
 use Rattle.course.specs.declared.Step.the-variants.{Mix, Check, Scale, Clear, Open}
-use Rattle.course.specs.StepList.{costOf, opensOf}
+use Rattle.course.specs.StepList.{costOf, revealedBy}
 use Rattle.course.proofs.Within.{within}
 use Rattle.walk.specs.Act.{opened, acted}
 use Rattle.walk.proofs.Acted.{square, pivot, under, last}
@@ -93,7 +93,7 @@ same-length : tie.Need-same-length
 same-length c = search needs
 
 returns : tie.Need-returns
-unfolding opened acted opensOf
+unfolding opened acted revealedBy
 returns c =
     let e = c .before .before .before .before .before .s .given .1 in
     (rw e, rw (e, c .before .before .mix .ensures))
@@ -102,7 +102,7 @@ same-length-2 : tie.Need-same-length-2
 same-length-2 c = search needs
 
 returns-2 : tie.Need-returns-2
-unfolding opened acted opensOf
+unfolding opened acted revealedBy
 returns-2 c =
     let e = c .before .before .before .s2 .given .1 in
     (rw (e, c .check .ensures), rw e)
@@ -111,7 +111,7 @@ same-length-3 : tie.Need-same-length-3
 same-length-3 c = search needs
 
 returns-3 : tie.Need-returns-3
-unfolding opened acted opensOf
+unfolding opened acted revealedBy
 returns-3 c =
     let e = c .before .before .before .before .before .s3 .given .1 in
     (rw e, rw (e, c .before .before .scale .ensures))
@@ -120,7 +120,7 @@ same-length-4 : tie.Need-same-length-4
 same-length-4 c = search needs
 
 returns-4 : tie.Need-returns-4
-unfolding opened acted opensOf
+unfolding opened acted revealedBy
 returns-4 c =
     let e = c .before .before .before .before .before .s4 .given .1 in
     (rw e, rw (e, c .before .before .clear .ensures))
@@ -132,7 +132,7 @@ same-length-6 : tie.Need-same-length-6
 same-length-6 c = search needs
 
 returns-5 : tie.Need-returns-5
-unfolding opened acted opensOf
+unfolding opened acted revealedBy
 returns-5 c =
     let e = c .before .before .before .before .before .before .before .s5 .given .1 in
     let x = c .before .before .before .before .«open» .ensures in

@@ -7,7 +7,7 @@ use native.Mathlib.Omega.{arith}
 use borrow.Author.Needs.{needs}
 use Rattle.course.specs.declared.Step.the-variants.{Scale}
 use Rattle.course.specs.declared.Place.the-variants.{At}
-use Rattle.course.specs.StepList.{costOf, opensOf}
+use Rattle.course.specs.StepList.{costOf, revealedBy}
 use Rattle.walk.proofs.Acted.{square}
 use Rattle.solver.specs.Refusals.{costAt, columnOf, no12}
 use Rattle.verdict.proofs.Verdicts.{tests}
@@ -49,7 +49,7 @@ refuse-if-requires : tie.Need-refuse-if-requires
 refuse-if-requires c κs = search needs
 
 returns-3 : tie.Need-returns-3
-unfolding no12 opensOf columnOf costAt
+unfolding no12 revealedBy columnOf costAt
 returns-3 c =
     let k = c .before .before .before .before .before .before in
     let start = k .before .before .before .before .before in

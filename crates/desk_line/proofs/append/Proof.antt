@@ -1,4 +1,4 @@
--- `desk_line::put` meets its contract. The loop's invariant: i is at most the text's length, and the first i bytes of the text stand in the
+-- `desk_line::append` meets its contract. The loop's invariant: i is at most the text's length, and the first i bytes of the text stand in the
 -- buffer from `at` on, and the buffer is as long as it was. The measure is what is left of the text.
 -- Assumes nothing.
 use Prim.Native.Nat.{_≤_, _-_}
@@ -9,8 +9,8 @@ use lib.ListN.{length, length-set}
 use lib.Seq.{paste, paste-zero, paste-suc}
 use denote.Ref.{now}
 use Rattle.desk_line.proofs.Written.{pasted-all}
-use Rattle.desk_line.proofs.put.Statement.{statement}
-use Rattle.desk_line.proofs.put.Tie as tie
+use Rattle.desk_line.proofs.append.Statement.{statement}
+use Rattle.desk_line.proofs.append.Tie as tie
 
 abbrev Inv-loop : tie.InvT-loop
 Inv-loop text out₀ at i₀ out i = (i ≤ length text) × (out ≡ paste out₀ at text i) × (length out ≡ length out₀)
@@ -54,8 +54,8 @@ returns c =
     let all : o .i ≡ length (now (c .before .before .args .text)) = omega arith in
     record { bytes = o .inv .1 ∙ rw all (pasted-all _ _ _); next = rw all }
 
-pub put-spec : {M : Type 1} → statement M
-put-spec =
+pub append-spec : {M : Type 1} → statement M
+append-spec =
     tie.close
     (tie.spec
     Inv-loop

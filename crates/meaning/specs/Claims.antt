@@ -1,0 +1,56 @@
+-- What the theorems about a solve are stated with, beside `Means`: what it is given and what it leaves, when two solves are alike, the table
+-- that Deal gives, and independence in the usual sense.
+-- Assumes nothing.
+use mathlib.Core.List.{List}
+use mathlib.Core.Path.{_≡_}
+use Prim.Native.Nat.{ℕ, _+_, _*_, _%_, _<_, _≤_}
+use lib.ListN.{length, replicate}
+use Rattle.field.specs.Field.{fieldOf}
+use Rattle.sharing.specs.Rules.{drawAt}
+use Rattle.table.specs.Layout.{tableBytes}
+use Rattle.algebra.specs.Linear.{combination}
+use Rattle.course.specs.declared.Order.{Order}
+use Rattle.course.specs.StepList.{Sizes, fullNonzero}
+use Rattle.walk.specs.declared.Ending.{Ending}
+use Rattle.walk.specs.declared.Ending.the-variants.{Solved, Stopped}
+use Rattle.walk.specs.Dealing.{dealt}
+use Rattle.meaning.specs.Meaning.{valueOf}
+
+-- no draw that a full solve takes from the nonzero tape is 0
+abbrev pub NoZero : Order → List ℕ → Type 0
+NoZero o zs = (k : ℕ) → k < fullNonzero o → drawAt (fieldOf (o .field)) zs k ≡ 0 → ⊥
+
+-- what a solve that is not refused is lent
+pub record Given (o : Order) (zs t x : List ℕ) : Type 0 where
+  pub sizes : Sizes o
+  pub table : length t ≡ tableBytes (o .shares) (o .size) (o .size + 1)
+  pub solution : length x ≡ o .size
+  pub nonzero : NoZero o zs
+
+-- the bytes of the solution that a call leaves: one for each unknown, and 0 on stopped
+abbrev pub Left : ℕ → Ending → List ℕ → Type 0
+Left m (Solved c) x = length x ≡ m
+Left m (Stopped j c) x = x ≡ replicate m 0
+
+-- the same answer, up to the counts
+abbrev pub Same : Ending → Ending → Type 0
+Same (Solved c) (Solved d) = Unit {0}
+Same (Solved c) (Stopped j d) = ⊥
+Same (Stopped i c) (Solved d) = ⊥
+Same (Stopped i c) (Stopped j d) = i ≡ j
+
+-- the shares add up to the same equations
+pub record SameValues (o p : Order) (t u : List ℕ) : Type 0 where
+  pub field : o .field ≡ p .field
+  pub size : o .size ≡ p .size
+  pub values : (r c : ℕ) → 1 ≤ r → r ≤ o .size → 1 ≤ c → c ≤ o .size + 1 → valueOf o t r c ≡ valueOf p u r c
+
+-- the dealt table of an order
+abbrev pub dealtFor : Order → List ℕ → List ℕ → List ℕ → List ℕ
+dealtFor o vs ds t = dealt (o .field) (o .shares) (o .size * (o .size + 1)) vs ds t
+
+-- independence in the usual sense: no other factors than 0 make the m columns add up to 0 in every equation
+abbrev pub Independent : Order → List ℕ → Type 0
+Independent o t =
+    (v : ℕ → ℕ) → ((r : ℕ) → 1 ≤ r → r ≤ o .size → combination (fieldOf (o .field)) (valueOf o t r) v (o .size) ≡ 0) → (c : ℕ) → 1 ≤ c → c ≤ o .size
+    → v c % fieldOf (o .field) .q ≡ 0
