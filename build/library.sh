@@ -43,7 +43,7 @@ make_library() {
     sources=$(sources_key)
     mkdir -p target/staticlib || return
     rm -f "$archive.key" "$archive" "$log"
-    echo "the library is proved first: from nothing that takes six to eight minutes on two cores" >&2
+    echo "the library is proved first: from nothing that takes four to eight minutes on two cores" >&2
     if ! prove_and_archive "$log"; then
         tail -n 20 "$log" >&2
         echo "the library could not be built; all that rt said is in $log" >&2
