@@ -1,16 +1,18 @@
--- The folds of the flag one by one: two in F16 and three in the other field.
+-- The folds of the flag one by one, two in F16 and three in the other field, and how few draws they take.
 -- Assumes nothing.
 use mathlib.Core.Path.{_≡_, refl}
 use mathlib.Core.Bool.{Bool, true, false}
 use Prim.Native.Nat.{ℕ, _+_, _*_, _≤_}
 use mathlib.Core.List.{List}
 use native.Mathlib.Omega.{arith}
+use native.Mathlib.Nat.{mul-le-mul}
 use lib.Dec.{eqb}
 use lib.ListN.{drop}
 use lib.Seq.{drop-drop}
 use Rattle.field.specs.Field.{pick, fieldOf, bits}
 use Rattle.sharing.specs.Run.{run}
-use Rattle.flag.specs.Flag.{folds, foldDraws, foldTurn, fold}
+use Rattle.sharing.proofs.Pairs.{pairs-small}
+use Rattle.flag.specs.Flag.{folds, foldDraws, flagDraws, foldTurn, fold}
 
 pub folds-two : (f : ℕ) → eqb f 16 ≡ true → folds f ≡ 2
 unfolding folds
@@ -27,6 +29,14 @@ folds-few f = few (eqb f 16)
     few : (t : Bool) → pick {A = ℕ} t 2 3 ≤ 3
     few true = omega arith
     few false = omega arith
+
+-- at most nine draws a fold
+pub fold-few : (n : ℕ) → n ≤ 4 → foldDraws n ≤ 9
+unfolding foldDraws
+fold-few n h = omega (arith, pairs-small n h)
+
+pub flag-few : (f n : ℕ) → n ≤ 4 → flagDraws f n ≤ 27
+flag-few f n h = mul-le-mul {n₁ = folds f} {m₁ = foldDraws n} {n₂ = 3} {m₂ = 9} (folds-few f) (fold-few n h)
 
 pub fold-two : (f n : ℕ) (ds s : List ℕ) → eqb f 16 ≡ true
     → fold (fieldOf f) 1 (drop (foldDraws n) ds) (fold (fieldOf f) 2 ds s) ≡ run (foldTurn f ds n) (folds f) s

@@ -5,7 +5,7 @@ use mathlib.Core.Path.{_≡_, refl, sym, ap, ap₂, _∙_}
 use Prim.Native.Nat.{ℕ, _+_, _-_, _*_, _%_, _<_, _≤_}
 use mathlib.Core.List.{List, [], _∷_, _++_}
 use native.Mathlib.Omega.{arith}
-use native.Mathlib.Nat.{le-refl}
+use native.Mathlib.Nat.{le-refl, mul-le-mul}
 use lib.ListN.{length, take, drop, List·getD-append}
 use lib.Seq.{getD-take, getD-drop}
 use Rattle.field.specs.Field.{Ops, inv}
@@ -13,7 +13,7 @@ use Rattle.sharing.specs.Run.{tab, pairs, overPairs}
 use Rattle.sharing.specs.Rules.{sum, drawAt, refreshTurn, refresh, productTurn, productOver, product, pairRefreshTurn, pairRefresh, opening, scaled, blindTurn, blinded, blindedValue, factors, inversionDraws}
 use Rattle.sharing.specs.Lists.{SameDraws}
 use Rattle.sharing.proofs.Loops.{run-ext, taken-room}
-use Rattle.sharing.proofs.Pairs.{tab-ext, over-ext, run-same}
+use Rattle.sharing.proofs.Pairs.{pairs-small, tab-ext, over-ext, run-same}
 use Rattle.sharing.proofs.Lengths.{scaled-length, blindTurn-length, blinded-length}
 
 -- whatever the draws and the products of single shares come from
@@ -95,3 +95,12 @@ module _ (F : Ops) where
       unfolding factors
       factors-draws =
           ap₂ (λ (l : List ℕ) (x : ℕ). l ++ (x ∷ [])) (tab-ext (length s - 1) (dz .at)) (ap (inv F) blindedValue-draws)
+
+-- ---- how few draws an Inversion takes
+
+pub blinding-few : (n : ℕ) → n ≤ 4 → (n - 1) * (n - 1) ≤ 9
+blinding-few n h = mul-le-mul {n₁ = n - 1} {m₁ = n - 1} {n₂ = 3} {m₂ = 3} (omega arith) (omega arith)
+
+pub inversion-few : (n : ℕ) → n ≤ 4 → inversionDraws n ≤ 15
+unfolding inversionDraws
+inversion-few n h = omega (arith, blinding-few n h, pairs-small n h)

@@ -21,9 +21,12 @@ mostSteps = mostRows * (mostRows + 2)
 abbrev pub mostDraws : ℕ
 mostDraws = 15 + 12 * mostWidth
 
--- room for a row: four bytes an entry, in whole blocks of 16
+-- the bytes of a row in four shares, and room for it in whole blocks of 16
+abbrev pub mostRowBytes : ℕ
+mostRowBytes = mostWidth * 4
+
 abbrev pub rowRoom : ℕ
-rowRoom = (mostWidth * 4 + 15) / 16 * 16
+rowRoom = (mostRowBytes + 15) / 16 * 16
 
 -- room for n work rows: n bytes an entry, in whole blocks of 48, or of 16 for n = 4
 abbrev pub workRoom2 : ℕ

@@ -4,16 +4,14 @@ use Prim.Native.Nat.{ℕ, _+_, _-_, _*_, _≤_}
 use native.Mathlib.Omega.{arith}
 use native.Mathlib.Nat.{mul-le-mul}
 use Rattle.sharing.specs.Run.{pairs}
-use Rattle.sharing.specs.Rules.{inversionDraws}
 use Rattle.sharing.proofs.Pairs.{pairs-count}
+use Rattle.sharing.proofs.Draws.{inversion-few}
 use Rattle.sharing.specs.Bounds.{mostWidth, mostDraws}
-use Rattle.flag.specs.Flag.{folds, foldDraws, flagDraws}
-use Rattle.flag.proofs.Folding.{folds-few}
+use Rattle.flag.proofs.Folding.{flag-few}
 use Rattle.table.specs.Costs.{mixCost, checkCost, scaleCost, clearCost, openCost}
 
 -- the products of the number of shares
 pub record Few (n : ℕ) : Type 0 where
-  pub square : (n - 1) * (n - 1) ≤ 9
   pub product : n * (n - 1) ≤ 12
   pub pairs-few : pairs n ≤ 6
 
@@ -21,20 +19,9 @@ pub few : (n : ℕ) → n ≤ 4 → Few n
 few n h =
     let p : n * (n - 1) ≤ 12 = mul-le-mul {n₁ = n} {m₁ = n - 1} {n₂ = 4} {m₂ = 3} h (omega arith) in
     record {
-      square = mul-le-mul {n₁ = n - 1} {m₁ = n - 1} {n₂ = 3} {m₂ = 3} (omega arith) (omega arith);
       product = p;
       pairs-few = omega (arith, pairs-count n);
     }
-
-pub flag-few : (f n : ℕ) → n ≤ 4 → flagDraws f n ≤ 27
-unfolding foldDraws
-flag-few f n h =
-    let w = few n h in
-    mul-le-mul {n₁ = folds f} {m₁ = n - 1 + pairs n} {n₂ = 3} {m₂ = 9} (folds-few f) (omega arith)
-
-pub inversion-few : (n : ℕ) → n ≤ 4 → inversionDraws n ≤ 15
-unfolding inversionDraws
-inversion-few n h = let w = few n h in omega arith
 
 pub clear-few : (n l : ℕ) → n ≤ 4 → l ≤ mostWidth → clearCost n l ≤ mostWidth * 6
 unfolding clearCost

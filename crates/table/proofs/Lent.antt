@@ -10,7 +10,7 @@ use Rattle.sharing.specs.Run.{run, tab}
 use Rattle.sharing.specs.Lists.{joined}
 use Rattle.sharing.proofs.Loops.{run-done, rest}
 use Rattle.sharing.proofs.Each.{each}
-use Rattle.sharing.specs.Bounds.{mostWidth}
+use Rattle.sharing.specs.Bounds.{mostWidth, mostRowBytes}
 use Rattle.table.specs.Layout.{columnsFrom, Bounded, Inside}
 use Rattle.table.proofs.Parts.{part-lent, part-length}
 
@@ -29,7 +29,7 @@ pub some-columns : {n rows w r j : ℕ} → Bounded n rows w → Inside rows w r
 some-columns S P = (omega arith, omega arith)
 
 -- a row fits the array that it is copied to
-pub row-small : {n rows w r j : ℕ} → Bounded n rows w → Inside rows w r j → columnsFrom w j * n ≤ mostWidth * 4
+pub row-small : {n rows w r j : ℕ} → Bounded n rows w → Inside rows w r j → columnsFrom w j * n ≤ mostRowBytes
 row-small {n} {w = w} {j = j} S P = mul-le-mul {n₁ = columnsFrom w j} {m₁ = n} {n₂ = mostWidth} {m₂ = 4} (omega arith) (omega arith)
 
 -- ---- `for i in 0..s.len() { s[i] = op(s[i], v[i]); }`

@@ -18,7 +18,7 @@ use Rattle.sharing.specs.Lists.{joined}
 use Rattle.sharing.proofs.Loops.{run-ext}
 use Rattle.sharing.proofs.Pairs.{tab-at, tab-length, tab-ext, tab-list}
 use Rattle.sharing.proofs.Rings.{add-right, neg-mod}
-use Rattle.sharing.specs.Bounds.{mostWidth}
+use Rattle.sharing.specs.Bounds.{mostWidth, mostRowBytes}
 use Rattle.row.specs.Rows.{Products}
 use Rattle.table.specs.Layout.{part, put}
 use Rattle.table.specs.Steps.{signed, overColumns, joinTurn, joinRow}
@@ -26,7 +26,7 @@ use Rattle.table.proofs.Parts.{part-at, part-length}
 use Rattle.table.proofs.Cells.{column-in}
 use Rattle.table.proofs.Columns.{Keeps, overColumns-length, overColumns-at}
 
-pub bytes-small : {n columns : ℕ} → n ≤ 4 → columns ≤ mostWidth → columns * n ≤ mostWidth * 4
+pub bytes-small : {n columns : ℕ} → n ≤ 4 → columns ≤ mostWidth → columns * n ≤ mostRowBytes
 bytes-small {n} {columns} h g = mul-le-mul {n₁ = columns} {m₁ = n} {n₂ = mostWidth} {m₂ = 4} g h
 
 -- ---- the sum takes a number modulo q
