@@ -4,7 +4,6 @@ pub mod Columns
 pub mod Lengths
 pub mod Entries
 pub mod Values
-pub mod Whole
 pub mod Draws
 pub mod Examples
 pub mod CostBounds
