@@ -4,7 +4,7 @@
 ghost use mathlib.Core.Path.{_≡_};
 ghost use mathlib.Core.List.{[], _∷_, _++_};
 ghost use Prim.Native.Nat.{_+_, _-_, _*_, _<_, _≤_};
-ghost use lib.ListN.{length};
+ghost use lib.ListN.{length, replicate};
 ghost use Rattle.field.specs.Field.{F16, fieldOf};
 ghost use Rattle.sharing.specs.Run.{tab, before, pairs, pairsOf};
 ghost use Rattle.sharing.specs.Rules.{sum, drawAt, addAt, subAt, refreshTurn, refresh, pairRefreshTurn, pairRefresh, opening, scaled, blindTurn, blinded, blindedValue, factors, fourOf, inversionDraws};
@@ -34,6 +34,14 @@ pub fn copy_into(dst: &mut [u8], src: &[u8])
 {
     for d in 0..src.len() {
         dst[d] = src[d];
+    }
+}
+
+pub fn wipe(x: &mut [u8])
+    ensures { λ r. ⌜ now (x .exit) ≡ replicate (length (now (x .entry))) 0 ⌝ }
+{
+    for i in 0..x.len() {
+        x[i] = 0;
     }
 }
 

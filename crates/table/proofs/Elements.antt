@@ -19,11 +19,11 @@ use Rattle.table.proofs.Parts.{part-at}
 use Rattle.table.proofs.Columns.{Keeps, overColumns-length, overColumns-at}
 
 module _ {q : ℕ} (pos : 0 < q) where
-  part-below : (k p : ℕ) (t : List ℕ) → Below q t → Below q (part k p t)
+  pub part-below : (k p : ℕ) (t : List ℕ) → Below q t → Below q (part k p t)
   unfolding part
   part-below k p t g = take-below pos k (drop p t) (drop-below p t g)
 
-  put-below : (k p : ℕ) (s t : List ℕ) → Below q s → Below q t → Below q (put k p s t)
+  pub put-below : (k p : ℕ) (s t : List ℕ) → Below q s → Below q t → Below q (put k p s t)
   unfolding put
   put-below k p s t g h = append-below _ (take-below pos p t h) (append-below s g (drop-below k (drop p t) (drop-below p t h)))
 

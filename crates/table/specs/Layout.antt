@@ -36,12 +36,16 @@ rowFrom n w r j t = part (columnsFrom w j * n) (cell n w r j) t
 abbrev pub putRow : ℕ → ℕ → ℕ → ℕ → List ℕ → List ℕ → List ℕ
 putRow n w r j row t = put (columnsFrom w j * n) (cell n w r j) row t
 
--- what a step asks of the sizes, and of a row and a column
-pub record Bounded (n rows w : ℕ) : Type 0 where
-  pub shares-low : 2 ≤ n
+-- the sizes that the code has room for. What takes no draws takes one byte an entry too, as plain values have it
+pub record Fits (n rows w : ℕ) : Type 0 where
   pub shares-high : n ≤ 4
   pub rows-high : rows ≤ mostRows
   pub width-high : w ≤ mostWidth
+
+-- what a step asks of the sizes, and of a row and a column
+pub record Bounded (n rows w : ℕ) : Type 0 where
+  pub shares-low : 2 ≤ n
+  pub fits : Fits n rows w
 
 pub record Inside (rows w r c : ℕ) : Type 0 where
   pub row-low : 1 ≤ r

@@ -10,7 +10,7 @@ ghost use Rattle.sharing.specs.Run.{pairs};
 ghost use Rattle.sharing.specs.Lists.{joined};
 ghost use Rattle.sharing.specs.Rules.{blindedValue, scaled};
 ghost use Rattle.sharing.specs.Bounds.{mostWidth, mostDraws, rowRoom};
-ghost use Rattle.table.specs.Layout.{Bounded, Inside, cell, tableBytes, entry, columnsFrom};
+ghost use Rattle.table.specs.Layout.{Fits, Bounded, Inside, cell, tableBytes, entry, columnsFrom};
 ghost use Rattle.table.specs.Steps.{signed, joinRow, joinRows, mix, check, scaleRow, scaleAll, scale, clear, unknownAt, liftTurn, lift};
 ghost use Rattle.table.specs.Code.Refreshing.{refreshRow};
 ghost use Rattle.table.specs.Costs.{mixCost, checkCost, scaleCost, scaleNonzero, clearCost, openCost};
@@ -18,7 +18,7 @@ use sharing::Factors;
 
 // The first byte of row r, column c.
 pub fn cell(n: usize, rows: usize, w: usize, r: usize, c: usize) -> usize
-    requires { ⌜ Bounded n rows w ⌝ }
+    requires { ⌜ Fits n rows w ⌝ }
     requires { ⌜ Inside rows w r c ⌝ }
     ensures { λ x. ⌜ x ≡ cell n w r c ⌝ }
 {
@@ -36,7 +36,7 @@ fn signed(f: u64, minus: bool, a: u8, b: u8) -> u8
 }
 
 // s += or -= v, share by share.
-fn join(f: u64, minus: bool, s: &mut [u8], v: &[u8])
+pub fn join(f: u64, minus: bool, s: &mut [u8], v: &[u8])
     requires { ⌜ length (now v) ≡ length (now s) ⌝ }
     ensures { λ r. ⌜ now (s .exit) ≡ joined (signed (fieldOf f) minus) (now (s .entry)) (now (v .entry)) ⌝ }
 {
@@ -304,7 +304,7 @@ pub fn open(f: u64, n: usize, rows: usize, w: usize, table: &[u8], r: usize, mas
 
 // T[i+1,w] -= x·T[i+1,j], share by share.
 fn lift_row(f: u64, n: usize, rows: usize, w: usize, table: &mut [u8], j: usize, x: u8, i: usize)
-    requires { ⌜ Bounded n rows w ⌝ }
+    requires { ⌜ Fits n rows w ⌝ }
     requires { ⌜ Inside rows w (i + 1) j ⌝ }
     requires { ⌜ length (now table) ≡ tableBytes n rows w ⌝ }
     ensures { λ r. ⌜ now (table .exit) ≡ liftTurn (fieldOf f) n w j x i (now (table .entry)) ⌝ }
@@ -319,7 +319,7 @@ fn lift_row(f: u64, n: usize, rows: usize, w: usize, table: &mut [u8], j: usize,
 
 // Open's second half: the rows above row r lose x times their entry of column j.
 pub fn lift(f: u64, n: usize, rows: usize, w: usize, table: &mut [u8], r: usize, j: usize, x: u8)
-    requires { ⌜ Bounded n rows w ⌝ }
+    requires { ⌜ Fits n rows w ⌝ }
     requires { ⌜ Inside rows w r j ⌝ }
     requires { ⌜ length (now table) ≡ tableBytes n rows w ⌝ }
     ensures { λ a. ⌜ now (table .exit) ≡ lift f n w r j x (now (table .entry)) ⌝ }

@@ -22,7 +22,10 @@ use Rattle.walk.specs.Act.{Held, opened, written, acted}
 -- m rows of m+1 columns
 pub square : {o : Order} → Sizes o → Bounded (o .shares) (o .size) (o .size + 1)
 square z =
-    record { shares-low = z .two; shares-high = z .four; rows-high = z .most; width-high = omega (arith, z .most) }
+    record {
+      shares-low = z .two;
+      fits = record { shares-high = z .four; rows-high = z .most; width-high = omega (arith, z .most) };
+    }
 
 -- the pivot's place in column j, that of a row below it, and the last column of its row
 module _ {m j : ℕ} where

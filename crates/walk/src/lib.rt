@@ -4,7 +4,7 @@
 ghost use mathlib.Core.Bool.{true};
 ghost use mathlib.Core.Path.{_≡_};
 ghost use Prim.Native.Nat.{_+_, _-_, _*_, _≤_};
-ghost use lib.ListN.{length, replicate};
+ghost use lib.ListN.{length};
 ghost use Rattle.field.specs.Field.{fieldOf};
 ghost use Rattle.sharing.specs.Run.{tab};
 ghost use Rattle.sharing.specs.Rules.{drawAt};
@@ -77,14 +77,6 @@ pub fn act(
     }
 }
 
-fn wipe(x: &mut [u8])
-    ensures { λ r. ⌜ now (x .exit) ≡ replicate (length (now (x .entry))) 0 ⌝ }
-{
-    for i in 0..x.len() {
-        x[i] = 0;
-    }
-}
-
 // The whole solve.
 pub fn solve(o: Order, table: &mut [u8], solution: &mut [u8], mask: &[u8], nonzero: &[u8]) -> Ending
     requires { ⌜ Sizes o ⌝ }
@@ -108,7 +100,7 @@ pub fn solve(o: Order, table: &mut [u8], solution: &mut [u8], mask: &[u8], nonze
                 at2 += d.nonzero;
             }
             Place::Stopped(j) => {
-                wipe(solution);
+                sharing::wipe(solution);
                 return Ending::Stopped(
                     j,
                     Counts {

@@ -5,12 +5,12 @@ use Prim.Native.Nat.{ℕ, _+_, _-_, _*_, _≤_}
 use native.Mathlib.Omega.{arith}
 use native.Mathlib.Nat.{mul-le-mul}
 use Rattle.sharing.specs.Bounds.{mostRows, mostWidth, mostEntries}
-use Rattle.table.specs.Layout.{cell, Bounded, Inside}
+use Rattle.table.specs.Layout.{cell, Fits, Inside}
 use borrow.Author.Needs.{needs}
 use Rattle.table.proofs.cell.Statement.{statement}
 use Rattle.table.proofs.cell.Tie as tie
 
-module _ (n rows w r c : ℕ) (S : Bounded n rows w) (P : Inside rows w r c) where
+module _ (n rows w r c : ℕ) (S : Fits n rows w) (P : Inside rows w r c) where
   row-small : (r - 1) * w ≤ mostEntries
   row-small = mul-le-mul {n₁ = r - 1} {m₁ = w} {n₂ = mostRows} {m₂ = mostWidth} (omega arith) (omega arith)
 

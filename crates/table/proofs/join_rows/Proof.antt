@@ -90,7 +90,7 @@ join-row-requires c κs =
     let g = d .before .before .before .before in
     let s = g .before .before .before .before .before in
     let m = some-columns (s .pre .0) (s .pre .1 .0 .0) in (
-      (s .pre .0 .shares-low, s .pre .0 .shares-high, m .0, m .1, s .pre .1 .1 .1),
+      (s .pre .0 .shares-low, s .pre .0 .fits .shares-high, m .0, m .1, s .pre .1 .1 .1),
       (lent-length _ _ _ (row-a g), whole d, s .pre .1 .1 .2),
     )
 

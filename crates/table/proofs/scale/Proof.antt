@@ -60,7 +60,7 @@ asked : (n rows w r j p d k : ℕ) (ds t : List ℕ) → Bounded n rows w → In
     × ((length (take (p + columnsFrom w j * n - p) (drop p t)) ≡ columnsFrom w j * k) × (k * (columnsFrom w j * (k - 1)) ≤ length (take (length ds - d) (drop d ds))))
 asked n rows w r j p d k ds t S P et ep ed ek h =
     rw (ek, ep, ed) (
-      (S .shares-low, S .shares-high, some-columns S P .1),
+      (S .shares-low, S .fits .shares-high, some-columns S P .1),
       (lent-length (columnsFrom w j * n) (cell n w r j) t (omega (arith, row-in n P)), rest-room (inversionDraws n) _ ds h),
     )
 
@@ -152,7 +152,7 @@ returns c =
     let s = p .before .before .before .before .before in
     let x = s .args in
     left (x .f) (x .n) (x .w) (x .r) (x .j) (p .before .cell .result) _ _ (x .nonzero .now) (x .mask .now) (x .table .now) _ _
-    (s .pre .0 .shares-high) (p .before .cell .ensures) (p .inversion-draws .ensures .0) (found i .0) (found i .1) (c .before .before .scale-all .ensures)
+    (s .pre .0 .fits .shares-high) (p .before .cell .ensures) (p .inversion-draws .ensures .0) (found i .0) (found i .1) (c .before .before .scale-all .ensures)
 
 pub scale-spec : {M : Type 1} → statement M
 scale-spec =

@@ -87,7 +87,7 @@ lift-requires c κs =
     let s = c .before .before .before .before in
     let p = s .before .before .before .before .before .before .pre in
     let w = opening s in
-    (square (p .0), (pivot (w .0) (w .1), p .1 .1 .0 .0))
+    (square (p .0) .fits, (pivot (w .0) (w .1), p .1 .1 .0 .0))
 
 same-length : tie.Need-same-length
 same-length c = search needs

@@ -1,4 +1,4 @@
--- `walk::wipe` meets its contract. The loop's invariant: each place passed is 0, and the others are as they were.
+-- `sharing::wipe` meets its contract. The loop's invariant: each place passed is 0, and the others are as they were.
 -- Assumes nothing.
 use mathlib.Core.List.{_++_, append-nil}
 use mathlib.Core.Path.{_≡_, refl, _∙_}
@@ -8,8 +8,8 @@ use lib.ListN.{length, drop, replicate}
 use lib.Seq.{drop-length}
 use borrow.Author.Fill.{fill-none, fill-more}
 use borrow.Author.Needs.{needs}
-use Rattle.walk.proofs.wipe.Statement.{statement}
-use Rattle.walk.proofs.wipe.Tie as tie
+use Rattle.sharing.proofs.wipe.Statement.{statement}
+use Rattle.sharing.proofs.wipe.Tie as tie
 
 abbrev Inv-loop : tie.InvT-loop
 Inv-loop x₀ i₀ i-end x i = (i-end ≡ length x₀) × (i ≤ i-end) × (length x ≡ length x₀) × (x ≡ replicate i 0 ++ drop i x₀)
