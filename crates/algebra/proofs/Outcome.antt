@@ -1,14 +1,17 @@
 -- At most one answer is true of a table, and it depends on the table's values in its rows and columns only.
 -- Assumes nothing.
-use mathlib.Core.Path.{_≡_, refl, sym, _∙_, _≡⟨_⟩_, _∎}
+use mathlib.Core.Path.{_≡_, refl, sym, ap, _∙_, _≡⟨_⟩_, _∎}
+use mathlib.Core.List.{List}
 use mathlib.Core.Logic.{_⊎_, inl, inr}
 use Prim.Native.Nat.{ℕ, zero, suc, _+_, _-_, _%_, _<_, _≤_}
 use native.Mathlib.Nat.{mod-eq-of-lt}
 use native.Mathlib.Omega.{arith}
 use native.Mathlib.Decide.{ℕ-discrete, decLt}
+use native.Mathlib.Numerals.{sub-one}
+use lib.Seq.{ext-getD}
 use Rattle.field.specs.Field.{Ops, Field, inv}
 use Rattle.field.proofs.Inverses.{mul-inv}
-use Rattle.algebra.specs.Linear.{Table, combination, Combines, Apart, IsSolved, IsStopped}
+use Rattle.algebra.specs.Linear.{Table, combination, Combines, Apart, IsSolved, IsStopped, Answer, solved, stopped, Left, Means}
 use Rattle.algebra.proofs.Arithmetic.{ring, add-neg, mul-add, mul-comm, mul-neg, neg-mul, mul-right, sub-back, zero-add, cancel-right, combination-zero, combination-suc, combination-lt, combination-lin, combination-ext, combination-comm}
 
 module _ (F : Ops) (m : ℕ) (T : Table) where
@@ -36,6 +39,14 @@ module _ (F : Ops) (m : ℕ) (T : Table) where
       | no k ↦ absurd (h .first j (g .low) (omega arith) (g .factors) (g .combines))
     ]
   ]
+
+  -- at most one answer is true of a table, with at most one solution
+  pub one-answer : (a b : Answer) (x y : List ℕ) → Means F m T a x → Left m a x → Means F m T b y → Left m b y → (a ≡ b) × (x ≡ y)
+  one-answer solved solved x y h lx g ly =
+      (refl, ext-getD 0 x y (lx ∙ sym ly) (λ i l. rw (sub-one (suc i)) at (solved-once h g (suc i) (omega arith) (omega arith))))
+  one-answer solved (stopped j) x y h lx g ly = absurd (not-both h g)
+  one-answer (stopped i) solved x y h lx g ly = absurd (not-both g h)
+  one-answer (stopped i) (stopped j) x y h lx g ly = (ap stopped (stopped-once h g), lx ∙ sym ly)
 
   -- "No columns at all combine only to the zero column, so column 1 stops exactly when it is zero"
   pub first-stops : Field F → 1 ≤ m → ((r : ℕ) → 1 ≤ r → r ≤ m → T r 1 ≡ 0) → IsStopped F m T 1
@@ -86,6 +97,10 @@ module _ (F : Ops) (L : Field F) (m : ℕ) where
           combines = combines-alike e j (h .low) (omega (arith, h .high)) (h .factors) (h .combines);
           first = λ i a b v g. h .first i a b v (combines-alike (alike-back e) i a (omega (arith, h .high)) v g);
         }
+
+    pub means-alike : (a : Answer) (x : List ℕ) → Means F m T a x → Means F m U a x
+    means-alike solved x h = solved-alike h
+    means-alike (stopped j) x h = stopped-alike h
 
 -- every entry is an element
 abbrev pub Small : Ops → Table → Type 0

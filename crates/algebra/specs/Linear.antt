@@ -2,7 +2,9 @@
 -- Rows and columns are numbered from 1: T = [A | b] has the unknowns' columns 1 to m, and b in column m+1.
 -- Assumes nothing.
 use mathlib.Core.Path.{_≡_}
+use mathlib.Core.List.{List}
 use Prim.Native.Nat.{ℕ, zero, suc, _+_, _-_, _%_, _≤_, _<_}
+use lib.ListN.{length, getD, replicate}
 use Rattle.field.specs.Field.{Ops}
 
 -- values by row, then column
@@ -13,6 +15,16 @@ Table = ℕ → ℕ → ℕ
 unfoldable pub combination : Ops → (ℕ → ℕ) → (ℕ → ℕ) → ℕ → ℕ
 combination F a v zero = 0
 combination F a v (suc k) = F .add (combination F a v k) (F .mul (a (suc k)) (v (suc k)))
+
+-- the answer of a system: solved, or stopped at a column
+pub data Answer : Type 0 where
+  solved : Answer
+  stopped : ℕ → Answer
+
+-- the bytes of the solution that a call leaves beside its answer: one for each unknown, and 0 on stopped
+abbrev pub Left : ℕ → Answer → List ℕ → Type 0
+Left m solved x = length x ≡ m
+Left m (stopped j) x = x ≡ replicate m 0
 
 module _ (F : Ops) (m : ℕ) (T : Table) where
   -- in each of the m equations the columns before column j, taken with the factors v, add up to column j
@@ -41,3 +53,8 @@ module _ (F : Ops) (m : ℕ) (T : Table) where
     pub factors : ℕ → ℕ
     pub combines : Combines j factors
     pub first : (i : ℕ) → 1 ≤ i → i < j → Apart i
+
+  -- what an answer, with the bytes of the solution, says of the values: x_j is byte j-1
+  abbrev pub Means : Answer → List ℕ → Type 0
+  Means solved x = IsSolved (λ c. getD x (c - 1) 0)
+  Means (stopped j) x = IsStopped j

@@ -22,8 +22,8 @@ use Rattle.course.specs.declared.Order.{Order}
 use Rattle.walk.specs.Act.{held}
 use Rattle.walk.specs.Walk.{solved}
 use Rattle.walk.specs.Dealing.{dealtEntry, dealTurn, dealt, gathered}
-use Rattle.meaning.specs.Meaning.{valueOf}
-use Rattle.meaning.specs.Claims.{Given, Same, SameValues, dealtFor}
+use Rattle.meaning.specs.Meaning.{valueOf, answerOf}
+use Rattle.meaning.specs.Claims.{Given, SameValues, dealtFor}
 use Rattle.meaning.proofs.Alike.{alike}
 
 module _ (f n : ℕ) (some : 0 < n) (vs ds : List ℕ) where
@@ -102,7 +102,7 @@ module _ (o p : Order) (field : o .field ≡ p .field) (size : o .size ≡ p .si
 
   -- two dealings of the values vs, by the draws ds into t and by the draws es into u
   pub dealt-alike : (ms ns : List ℕ)
-      → Same (solved o ms zs (held (dealtFor o vs ds t) x) .answer) (solved p ns ys (held (dealtFor p vs es u) y) .answer)
+      → (answerOf (solved o ms zs (held (dealtFor o vs ds t) x) .answer) ≡ answerOf (solved p ns ys (held (dealtFor p vs es u) y) .answer))
       × (solved o ms zs (held (dealtFor o vs ds t) x) .left .solution ≡ solved p ns ys (held (dealtFor p vs es u) y) .left .solution)
   dealt-alike ms ns =
       alike o p ms zs (dealtFor o vs ds t) x ns ys (dealtFor p vs es u) y (lent-dealt o vs ds zs t x l) (lent-dealt p vs es ys u y k)

@@ -4,15 +4,13 @@
 use mathlib.Core.List.{List}
 use mathlib.Core.Path.{_≡_}
 use Prim.Native.Nat.{ℕ, _+_, _*_, _%_, _<_, _≤_}
-use lib.ListN.{length, replicate}
+use lib.ListN.{length}
 use Rattle.field.specs.Field.{fieldOf}
 use Rattle.sharing.specs.Rules.{drawAt}
 use Rattle.table.specs.Layout.{tableBytes}
 use Rattle.algebra.specs.Linear.{combination}
 use Rattle.course.specs.declared.Order.{Order}
 use Rattle.course.specs.StepList.{Sizes, fullNonzero}
-use Rattle.walk.specs.declared.Ending.{Ending}
-use Rattle.walk.specs.declared.Ending.the-variants.{Solved, Stopped}
 use Rattle.walk.specs.Dealing.{dealt}
 use Rattle.meaning.specs.Meaning.{valueOf}
 
@@ -26,18 +24,6 @@ pub record Given (o : Order) (zs t x : List ℕ) : Type 0 where
   pub table : length t ≡ tableBytes (o .shares) (o .size) (o .size + 1)
   pub solution : length x ≡ o .size
   pub nonzero : NoZero o zs
-
--- the bytes of the solution that a call leaves: one for each unknown, and 0 on stopped
-abbrev pub Left : ℕ → Ending → List ℕ → Type 0
-Left m (Solved c) x = length x ≡ m
-Left m (Stopped j c) x = x ≡ replicate m 0
-
--- the same answer, up to the counts
-abbrev pub Same : Ending → Ending → Type 0
-Same (Solved c) (Solved d) = Unit {0}
-Same (Solved c) (Stopped j d) = ⊥
-Same (Stopped i c) (Solved d) = ⊥
-Same (Stopped i c) (Stopped j d) = i ≡ j
 
 -- the shares add up to the same equations
 pub record SameValues (o p : Order) (t u : List ℕ) : Type 0 where
