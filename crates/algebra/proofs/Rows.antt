@@ -8,7 +8,7 @@ use native.Mathlib.Omega.{arith}
 use native.Mathlib.Decide.{ℕ-discrete, decLe}
 use Rattle.field.specs.Field.{Ops, Field}
 use Rattle.algebra.specs.Linear.{Table, combination}
-use Rattle.algebra.specs.Steps.{In, RowIs}
+use Rattle.algebra.specs.Steps.{In, RowIs, Exchanges}
 use Rattle.algebra.proofs.Arithmetic.{ring, neg-mul, add-sub, combination-lin, combination-ext}
 use Rattle.algebra.proofs.Outcome.{Adds, Small}
 
@@ -110,3 +110,50 @@ module _ (F : Ops) (L : Field F) (m w : ℕ) where
         undo : (x : ℕ) → x < q → b ⊙ (a ⊙ x ⊕ 0 ⊙ x) ⊕ 0 ⊙ (a ⊙ x ⊕ 0 ⊙ x) ≡ x
         undo x h =
             let one : b ⊙ (a ⊙ x ⊕ 0 ⊙ x) ⊕ 0 ⊙ (a ⊙ x ⊕ 0 ⊙ x) ≡ b ⊙ a ⊙ x ⊕ 0 = simp ring in one ∙ rw e (simp ring (mod-eq-of-lt h))
+
+  -- rows i and s are exchanged, which undoes itself
+  module _ (k j : ℕ) (low : 1 ≤ k) (i s : ℕ) (ki : k ≤ i) (im : i ≤ m) (ks : k ≤ s) (sm : s ≤ m) where
+    exchange-back : {A B : Table} → Exchanges m w i s j A B → Exchanges m w i s j B A
+    exchange-back X =
+        record {
+          up = λ c a b. sym (X .down c a b);
+          down = λ c a b. sym (X .up c a b);
+          kept = λ r c P e d. sym (X .kept r c P e d);
+        }
+
+    exchanged : {A B : Table} → Exchanges m w i s j A B → ((r c : ℕ) → In m w r c → k ≤ r → c < j → A r c ≡ 0) → (r : ℕ) → 1 ≤ r → r ≤ m
+        → Made A (B r)
+    exchanged {A} {B} X low-zeros r a b = elim (ℕ-discrete r i) [
+      | yes e ↦
+          rw e
+          (taken s (omega arith) sm
+          (λ c p l. elim (decLe j c) [
+            | yes h ↦ X .up c h l
+            | no h ↦ both c p l (omega arith) i s ki ks im sm
+          ]))
+      | no e ↦ elim (ℕ-discrete r s) [
+        | yes d ↦
+            rw d
+            (taken i (omega arith) im
+            (λ c p l. elim (decLe j c) [
+              | yes h ↦ X .down c h l
+              | no h ↦ both c p l (omega arith) s i ks ki sm im
+            ]))
+        | no d ↦ taken r a b (λ c p l. X .kept r c (omega arith) (λ x. absurd (e x)) (λ x. absurd (d x)))
+      ]
+    ]
+      where
+        both : (c : ℕ) → 1 ≤ c → c ≤ w → c < j → (x y : ℕ) → k ≤ x → k ≤ y → x ≤ m → y ≤ m → B x c ≡ A y c
+        both c p l h x y kx ky xm ym =
+            X .kept x c (omega arith) (λ _. h) (λ _. h) ∙ low-zeros x c (omega arith) kx h ∙ sym (low-zeros y c (omega arith) ky h)
+
+    pub exchange-work : {T U : Table} → Zeros k j T → Exchanges m w i s j T U → Work j T U
+    exchange-work {T} {U} z X =
+        record {
+          keep = rows T U (exchanged X zeros);
+          back = rows U T (exchanged (exchange-back X) (λ r c P kr h. X .kept r c P (λ _. h) (λ _. h) ∙ zeros r c P kr h));
+          low = λ r c P l. X .kept r c P (λ _. l) (λ _. l);
+        }
+      where
+        zeros : (r c : ℕ) → In m w r c → k ≤ r → c < j → T r c ≡ 0
+        zeros r c P kr h = z r c kr (P .1) (P .2) h

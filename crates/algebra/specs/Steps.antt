@@ -18,6 +18,12 @@ module _ (m w : ℕ) where
     pub new : (c : ℕ) → j ≤ c → c ≤ w → U i c ≡ f c
     pub kept : (r c : ℕ) → In r c → (r ≡ i → c < j) → U r c ≡ T r c
 
+  -- rows i and s are exchanged in columns j and up, and every other entry is as it was
+  pub record Exchanges (i s j : ℕ) (T U : Table) : Type 0 where
+    pub up : (c : ℕ) → j ≤ c → c ≤ w → U i c ≡ T s c
+    pub down : (c : ℕ) → j ≤ c → c ≤ w → U s c ≡ T i c
+    pub kept : (r c : ℕ) → In r c → (r ≡ i → c < j) → (r ≡ s → c < j) → U r c ≡ T r c
+
   module _ (F : Ops) where
     -- Mix: "row j += Product(flag, row k)", with the flag of T[j,j]. Not whenever the other row's entry isn't 0: "a good pivot can cancel"
     abbrev pub Mixes : ℕ → ℕ → ℕ → Table → Table → Type 0
