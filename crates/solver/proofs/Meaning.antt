@@ -28,7 +28,7 @@ module _ (o : Order) (t x mask nonzero : List ℕ) where
       nine-says (o .field) (take (fullNonzero o) nonzero) (d .nonzeros) k (rw (length-take-le (fullNonzero o) nonzero (d .others)) h)
       (ap (draw (fieldOf (o .field))) (getD-take (fullNonzero o) nonzero k 0 h) ∙ e)
 
-  lending : Solvable o t (length x) (length mask) nonzero → Given o nonzero t x
+  pub lending : Solvable o t (length x) (length mask) nonzero → Given o nonzero t x
   lending d = record { sizes = d .sizes; table = d .lent .whole; solution = d .lent .room; nonzero = drawn d }
 
   told : (w : Told) → solveOrder o t (length x) (length mask) nonzero ≡ w

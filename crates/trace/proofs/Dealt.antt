@@ -12,7 +12,7 @@ use Rattle.sharing.specs.Lists.{Below}
 use Rattle.table.specs.Layout.{tableBytes}
 use Rattle.course.specs.declared.Order.{Order}
 use Rattle.course.specs.StepList.{fullMask, fullNonzero}
-use Rattle.walk.specs.Dealing.{dealt}
+use Rattle.walk.specs.Dealing.{dealt, gathered}
 use Rattle.meaning.specs.Meaning.{valueOf}
 use Rattle.meaning.specs.Claims.{NoZero}
 use Rattle.meaning.proofs.Dealt.{dealt-length, dealt-below, gather-deal, dealtFor-value}
@@ -65,14 +65,17 @@ module _ (o : Order) (values mask table : List ℕ) where
     values-below : Below (fieldOf (o .field) .q) values
     values-below = six-says (o .field) values (lent .lent .elements)
 
+    -- the sums of what Deal left are the values
+    pub gathered-values : gathered (o .field) (o .shares) (entries (o .size)) (dealCall o values mask table .left) ≡ values
+    gathered-values =
+        rw left (gather-deal (o .field) (o .shares) some values mask (entries (o .size)) table size (lent .lent .whole) (λ i l. values-below .at i))
+
     -- Gather then answers filled, with the values
     pub gather-after-deal : (out : List ℕ) → length out ≡ entries (o .size)
         → gatherCall o (dealCall o values mask table .left) out ≡ after (gives filled) values
     unfolding gatherCall call
     gather-after-deal out e =
-        rw (left, gather-passes o (lent .sizes) _ whole elements (length out) e)
-        (ap (after (gives filled))
-        (gather-deal (o .field) (o .shares) some values mask (entries (o .size)) table size (lent .lent .whole) (λ i l. values-below .at i)))
+        rw (gathered-values, gather-passes o (lent .sizes) (dealCall o values mask table .left) (ap length left ∙ whole) (rw left elements) (length out) e)
 
     -- Solve then is admitted, with any tapes that are long enough and have no nonzero draw that is 0
     pub solve-after-deal : (x ms zs : List ℕ) → length x ≡ o .size → fullMask o ≤ length ms → fullNonzero o ≤ length zs → NoZero o zs

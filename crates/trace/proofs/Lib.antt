@@ -7,4 +7,5 @@ pub mod Reached
 pub mod Trace
 pub mod Progress
 pub mod Dealt
+pub mod Twin
 pub mod Wanted

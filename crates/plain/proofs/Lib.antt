@@ -1,0 +1,9 @@
+pub mod Places
+pub mod Pivot
+pub mod Turns
+pub mod Admitted
+pub mod Entries
+pub mod Sound
+pub mod Meaning
+pub mod Once
+pub mod Examples
