@@ -1,5 +1,5 @@
 -- Only one outcome meets the promise of a call for C: of two that do, the codes are one, and so are what was lent, byte for byte and word for
--- word, and the answer's words. Each promise is an equation with `back` on its left, so one statement serves all six exports.
+-- word, and the answer's words. Each promise is an equation with `back` on its left, so one statement serves all exports.
 -- Assumes nothing.
 use mathlib.Core.List.{List}
 use mathlib.Core.Path.{_≡_, sym, ap, _∙_}
@@ -7,7 +7,8 @@ use Prim.Native.Nat.{ℕ}
 use Rattle.walk.specs.Act.{Held, held}
 use Rattle.host.specs.Faces.{Back, back, Recorded, recorded}
 
--- hz_start, hz_deal, hz_gather: l is the record's words, the table, or the values; hz_counts lends nothing but the answer
+-- hz_start, hz_deal, hz_gather, hz_plain: l is the record's words, the table, the values, or the solution; hz_counts and hz_wanted lend nothing
+-- else that could change
 pub once : {L : Type 0} (b : Back L) (r s : ℕ) (l k : L) (a c : List ℕ) → back r l a ≡ b → back s k c ≡ b → (r ≡ s) × (l ≡ k) × (a ≡ c)
 once {L} b r s l k a c e d =
     let w : back r l a ≡ back s k c = e ∙ sym d in

@@ -11,9 +11,10 @@ use Rattle.course.specs.declared.Progress.{Progress}
 use Rattle.walk.specs.Act.{Held}
 use Rattle.verdict.specs.Calls.{Says, refuses, gives, Outcome, Nothing}
 use Rattle.solver.specs.Calls.{Stride, Lent, startCall, countsCall, dealCall, gatherCall, solveCall, stepCall, wantedCall}
+use Rattle.plain.specs.Calls.{plainCall}
 use Rattle.host.specs.declared.replies.Reply.{Reply}
 use Rattle.host.specs.Words.{progressOf, wordsOf, kept}
-use Rattle.host.specs.Replies.{fourOf, said, freshReply, countsReply, fullReply, endingReply, strideReply, wantedReply}
+use Rattle.host.specs.Replies.{fourOf, said, freshReply, countsReply, fullReply, endingReply, strideReply, wantedReply, plainReply}
 
 -- a call that came back: its code, what it was lent as it stands afterwards, and the answer's words
 pub record Back (L : Type 0) : Type 0 where
@@ -87,3 +88,8 @@ hzGather o table values answer = worded (four (length answer)) values answer (ha
 
 unfoldable pub hzCounts : Order → List ℕ → Back Nothing
 hzCounts o answer = worded (four (length answer)) tt answer (handed countsReply (countsCall o))
+
+-- ---- the plain solve
+
+unfoldable pub hzPlain : ℕ → ℕ → List ℕ → List ℕ → List ℕ → Back (List ℕ)
+hzPlain field size values x answer = worded (four (length answer)) x answer (handed plainReply (plainCall field size values x))

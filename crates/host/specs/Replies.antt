@@ -10,7 +10,9 @@ use Rattle.walk.specs.declared.Ending.the-variants.{Solved, Stopped}
 use Rattle.verdict.specs.Told.{Line}
 use Rattle.verdict.specs.Refusals.{reportOf}
 use Rattle.verdict.specs.Calls.{Says, refuses, gives}
-use Rattle.solver.specs.Calls.{Full, filled, Stride, moved, found, stopped, done}
+use Rattle.solver.specs.Calls as Calls
+use Rattle.solver.specs.Calls.{Full, filled, Stride, moved, found, done}
+use Rattle.algebra.specs.Linear.{Answer, solved, stopped}
 use Rattle.host.specs.declared.replies.Reply.{Reply}
 
 abbrev pub reply : ℕ → ℕ → ℕ → ℕ → ℕ → Reply
@@ -28,13 +30,18 @@ refusalReply l = let r = reportOf l in reply 0 (r .number) (r .a) (r .b) (r .c)
 unfoldable pub strideReply : Stride → Reply
 strideReply moved = reply 1 0 0 0 0
 strideReply (found j x) = reply 2 j x 0 0
-strideReply (stopped j) = reply 3 j 0 0 0
+strideReply (Calls.stopped j) = reply 3 j 0 0 0
 strideReply (done x) = reply 4 x 0 0 0
 
 -- Solve
 unfoldable pub endingReply : Ending → Reply
 endingReply (Stopped j c) = reply 3 j (c .steps) (c .mask) (c .nonzero)
 endingReply (Solved c) = reply 5 (c .steps) (c .mask) (c .nonzero) 0
+
+-- the plain solve, which has no counters
+unfoldable pub plainReply : Answer → Reply
+plainReply (stopped j) = reply 3 j 0 0 0
+plainReply solved = reply 5 0 0 0 0
 
 -- Deal and Gather
 unfoldable pub fullReply : Full → Reply

@@ -1,4 +1,4 @@
-// The library for C: the public calls over numbers and slices, under the names of include/hostozaro.h. Stands on solver.
+// The library for C: the public calls over numbers and slices, under the names of include/hostozaro.h. Stands on solver and plain.
 // Each exported function takes any numbers and any buffers, and promises by one equation the code that it returns and every lent byte and
 // word, for every input. A record or an answer that has not its number of words is code 99, before anything else, and nothing is written.
 // The record is `record_words` here: antt reserves `record`.
@@ -8,7 +8,7 @@ mod words;
 ghost use mathlib.Core.Path.{_≡_};
 ghost use Rattle.walk.specs.Act.{held};
 ghost use Rattle.solver.specs.Calls.{order};
-ghost use Rattle.host.specs.Faces.{back, recorded, hzStart, hzStep, hzWanted, hzSolve, hzDeal, hzGather, hzCounts};
+ghost use Rattle.host.specs.Faces.{back, recorded, hzStart, hzStep, hzWanted, hzSolve, hzDeal, hzGather, hzCounts, hzPlain};
 use solver::Starting;
 
 // A fresh record of these sizes, or refusal 1, 2, 3.
@@ -145,4 +145,22 @@ pub extern "C" fn hz_counts(field: u64, shares: u64, size: u64, answer: &mut [u6
     }
     let c = solver::counts(field, shares, size);
     replies::say(answer, replies::of_counts(c))
+}
+
+// The plain solve, for the laboratory. Not for secrets.
+#[no_mangle]
+pub extern "C" fn hz_plain(
+    field: u64,
+    size: u64,
+    values: &[u8],
+    solution: &mut [u8],
+    answer: &mut [u64],
+) -> u64
+    ensures { λ r. ⌜ back r (now (solution .exit)) (now (answer .exit)) ≡ hzPlain field size (now (values .entry)) (now (solution .entry)) (now (answer .entry)) ⌝ }
+{
+    if answer.len() != 4 {
+        return 99;
+    }
+    let s = plain::solve(field, size, values, solution);
+    replies::say(answer, replies::of_plain(s))
 }

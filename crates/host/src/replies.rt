@@ -3,7 +3,8 @@ ghost use mathlib.Core.Path.{_≡_};
 ghost use lib.ListN.{length};
 ghost use Rattle.verdict.specs.Refusals.{paper};
 ghost use Rattle.solver.specs.Calls.{countSays, fillSays, solveSays, stepSays, wantSays};
-ghost use Rattle.host.specs.Replies.{reply, refusalReply, said, countsReply, fullReply, endingReply, strideReply, wantedReply, fourOf};
+ghost use Rattle.plain.specs.Calls.{plainSays};
+ghost use Rattle.host.specs.Replies.{reply, refusalReply, said, countsReply, fullReply, endingReply, strideReply, wantedReply, plainReply, fourOf};
 use solver::Counting;
 use solver::Filling;
 use solver::Solving;
@@ -98,6 +99,16 @@ pub fn of_solve(x: Solving) -> Reply
             c: c.mask as u64,
             d: c.nonzero as u64,
         },
+    }
+}
+
+pub fn of_plain(x: plain::Solving) -> Reply
+    ensures { λ r. ⌜ r ≡ said plainReply (plainSays x) ⌝ }
+{
+    match x {
+        plain::Solving::Refused(y) => refusal(y),
+        plain::Solving::Solved => short(5, 0, 0),
+        plain::Solving::Stopped(j) => short(3, j, 0),
     }
 }
 
