@@ -3,13 +3,15 @@
  *
  *     count PROGRAM [SIZE..]
  *
- * PROGRAM holds the library, the model and the C solves; it is emulated. Where sizes
- * are given, only those are counted, and nothing is set against document 001. */
+ * PROGRAM holds the library, the model, the C solves and M4RIE if that is installed; it
+ * is emulated. Where sizes are given, only those are counted, and nothing is set against
+ * document 001. */
 #include "hostozaro.h"
 #include "model.h"
 #include "x86.h"
 
 #include <inttypes.h>
+#include <stdbool.h>
 #include <stdio.h>
 #include <stdlib.h>
 #include <string.h>
@@ -65,11 +67,11 @@ static void compare(const char *name, const void *got, const void *want, size_t 
 }
 
 /* What the functions are lent, as addresses in the machine. */
-static uint64_t at_table, at_x, at_mask, at_nonzero, at_answer;
+static uint64_t at_table, at_values, at_x, at_mask, at_nonzero, at_answer;
+static const uint64_t empty[96];
 
 static void lend(void)
 {
-    static const uint64_t empty[96];
     x86_reset(machine);
     at_table = x86_lend(machine, table, table_len);
     at_x = x86_lend(machine, empty, m);
@@ -78,13 +80,19 @@ static void lend(void)
     at_answer = x86_lend(machine, empty, 32);
 }
 
+static void compare_solution(const char *name)
+{
+    uint8_t x[96];
+    x86_take(machine, at_x, x, m);
+    compare(name, x, wanted_x, m);
+}
+
 static void compare_results(const char *name)
 {
-    static uint8_t got[MAX_TABLE], x[96];
+    static uint8_t got[MAX_TABLE];
     x86_take(machine, at_table, got, table_len);
-    x86_take(machine, at_x, x, m);
     compare(name, got, wanted, table_len);
-    compare(name, x, wanted_x, m);
+    compare_solution(name);
 }
 
 static uint64_t whole(const char *name, const uint64_t *arguments, size_t count)
@@ -138,16 +146,70 @@ static uint64_t single_steps(void)
     return sum;
 }
 
-static uint64_t plain(void)
+/* For the solves without shares. Solution and answer begin with other bytes, so that it
+ * shows if they are not written. */
+static void lend_values(void)
 {
-    uint8_t x[96];
     x86_reset(machine);
-    uint64_t at_values = x86_lend(machine, values, m * (m + 1));
+    at_values = x86_lend(machine, values, m * (m + 1));
     at_x = x86_lend(machine, wanted, m);
+    at_answer = x86_lend(machine, wanted, 32);
+}
+
+static uint64_t plain_c(void)
+{
+    lend_values();
     x86_call(machine, "plain_solve", (uint64_t[]){field, m, at_values, at_x}, 4);
-    x86_take(machine, at_x, x, m);
-    compare("plain_solve", x, wanted_x, m);
+    compare_solution("plain_solve");
     return machine->counted;
+}
+
+static uint64_t plain_engine(void)
+{
+    uint64_t answer[4], solved = HZ_SOLVED;
+    uint8_t after[96 * 97];
+    lend_values();
+    uint64_t code = x86_call(machine, "hz_plain",
+                             (uint64_t[]){field, m, at_values, m * (m + 1), at_x, m, at_answer, 4}, 8);
+    compare("hz_plain", &code, &solved, sizeof code);
+    x86_take(machine, at_answer, answer, sizeof answer);
+    compare("hz_plain", answer, empty, sizeof answer);
+    x86_take(machine, at_values, after, m * (m + 1));
+    compare("hz_plain", after, values, m * (m + 1));
+    compare_solution("hz_plain");
+    return machine->counted;
+}
+
+static bool have_m4rie(void)
+{
+    for (size_t i = 0; i < machine->symbol_count; i++)
+        if (strcmp(machine->symbols[i].name, "m4rie_open") == 0)
+            return true;
+    return false;
+}
+
+typedef struct {
+    uint64_t solve, echelon_form; /* the first includes the second */
+} m4rie_counts;
+
+static m4rie_counts m4rie(void)
+{
+    m4rie_counts counted;
+    lend_values();
+    /* Debian builds M4RIE with a stack protector, which looks at fs:0x28. */
+    uint64_t at_thread = x86_lend(machine, empty, 64);
+    uc_reg_write(machine->uc, UC_X86_REG_FS_BASE, &at_thread);
+    x86_call(machine, "m4rie_open", &field, 1);
+    x86_call(machine, "m4rie_fill", (uint64_t[]){m, at_values}, 2);
+    counted.solve = machine->counted;
+    uint64_t rank = x86_call(machine, "m4rie_reduce", NULL, 0);
+    counted.echelon_form = machine->counted;
+    x86_call(machine, "m4rie_take", &at_x, 1);
+    counted.solve += counted.echelon_form + machine->counted;
+    x86_call(machine, "m4rie_close", NULL, 0);
+    compare("M4RIE's rank", &rank, &m, sizeof rank);
+    compare_solution("M4RIE");
+    return counted;
 }
 
 static double millions(uint64_t count)
@@ -175,34 +237,74 @@ static void print_against_plain(uint64_t size, const char *paper)
     printf("| %" PRIu64, size);
     for (uint64_t f = 16; f <= 256; f += 240) {
         make_system(f, 2, size);
-        uint64_t masked = with_lengths("hz_solve"), bare = plain();
+        uint64_t masked = with_lengths("hz_solve"), bare = plain_c();
         printf(" | %.3f | %.3f | %.1f", millions(masked), millions(bare), over(masked, bare));
     }
     printf(" | %s |\n", paper);
 }
 
-int main(int argc, char **argv)
+static void print_plain_row(bool beside_m4rie)
 {
-    static const char *const usual[] = {"16", "44", "96"};
-    if (argc < 2)
-        return 2;
-    machine = x86_open(argv[1]);
+    uint64_t engine = plain_engine(), c = plain_c();
+    m4rie_counts its = beside_m4rie ? m4rie() : (m4rie_counts){0};
+    printf("| F%" PRIu64 " | %" PRIu64 " | %.3f | %.3f | %.2f |", field, m, millions(engine), millions(c),
+           over(engine, c));
+    if (beside_m4rie)
+        printf(" %.3f | %.3f | %.2f | %.2f |", millions(its.solve), millions(its.echelon_form),
+               over(engine, its.solve), over(engine, its.echelon_form));
+    printf("\n");
+    fflush(stdout);
+}
 
+static void print_masked(char **sizes, int count)
+{
     printf("| field | n | m | library | straightforward C | best C | ordered C | single steps | library / straightforward "
            "| library / best | library / ordered | steps / library |\n"
            "|---|---|---|---|---|---|---|---|---|---|---|---|\n");
     for (uint64_t f = 16; f <= 256; f += 240)
         for (uint64_t shares = 2; shares <= 4; shares++)
-            for (int i = 0; i < (argc > 2 ? argc - 2 : 3); i++) {
-                make_system(f, shares, strtoull(argc > 2 ? argv[2 + i] : usual[i], NULL, 10));
+            for (int i = 0; i < count; i++) {
+                make_system(f, shares, strtoull(sizes[i], NULL, 10));
                 print_row();
             }
-    if (argc > 2)
-        return 0;
+}
+
+static void print_beside_001(void)
+{
     printf("\n| m | F16: library | plain C | ratio | F256: library | plain C | ratio | 001 |\n"
            "|---|---|---|---|---|---|---|---|\n");
     print_against_plain(44, "6.5");
     print_against_plain(72, "5.9");
     print_against_plain(96, "5.7");
+}
+
+static void print_plain(char **sizes, int count)
+{
+    bool beside_m4rie = have_m4rie();
+    printf("\n| field | m | plain engine | plain C | plain engine / plain C |%s\n|---|---|---|---|---|%s\n",
+           beside_m4rie ? " M4RIE | its echelon form | plain engine / M4RIE | plain engine / its echelon form |" : "",
+           beside_m4rie ? "---|---|---|---|" : "");
+    for (uint64_t f = 16; f <= 256; f += 240)
+        for (int i = 0; i < count; i++) {
+            make_system(f, 2, strtoull(sizes[i], NULL, 10));
+            print_plain_row(beside_m4rie);
+        }
+    if (!beside_m4rie)
+        printf("\nM4RIE is not installed here (Debian's libm4rie-dev and libm4ri-dev), so it has no column.\n");
+}
+
+int main(int argc, char **argv)
+{
+    if (argc < 2)
+        return 2;
+    machine = x86_open(argv[1]);
+    if (argc > 2) {
+        print_masked(argv + 2, argc - 2);
+        print_plain(argv + 2, argc - 2);
+    } else {
+        print_masked((char *[]){"16", "44", "96"}, 3);
+        print_beside_001();
+        print_plain((char *[]){"44", "96"}, 2);
+    }
     return 0;
 }

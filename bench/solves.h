@@ -22,4 +22,14 @@ shared_solve ordered_solve;
  * Returns 0, or the first column that depends on those before it. */
 uint64_t plain_solve(uint64_t field, uint64_t size, const uint8_t *values, uint8_t *solution);
 
+/* The same system by M4RIE, where it is installed, in parts that are counted apart:
+ * open makes M4RIE's tables for the field, fill makes a matrix of [A | b], reduce
+ * brings it into reduced row echelon form and returns the rank, take reads the last
+ * column and frees the matrix. After close another field can be opened. */
+void m4rie_open(uint64_t field);
+void m4rie_fill(uint64_t size, const uint8_t *values);
+uint64_t m4rie_reduce(void);
+void m4rie_take(uint8_t *solution);
+void m4rie_close(void);
+
 #endif
