@@ -4,9 +4,10 @@
  * 16 or of 256 elements, where each entry of A and b is held as 2, 3 or 4 shares
  * whose sum (exclusive or) is the entry. It solves the whole system in one call,
  * or one small step to a call, so that a host can do other work in between. It
- * also deals plain values into shares and gathers shares back. It makes no random
- * numbers: the host lends them, on two tapes. The inputs of a call determine its
- * answer and every lent byte afterwards, refusals included.
+ * also deals plain values into shares and gathers shares back. For the laboratory
+ * there is an unmasked twin, hz_plain, that solves plain values in the open. The
+ * library makes no random numbers: the host lends them, on two tapes. The inputs
+ * of a call determine its answer and every lent byte afterwards, refusals included.
  *
  *
  * WORDS
@@ -14,7 +15,7 @@
  * field    16 or 256. Elements are the numbers 0..15 or 0..255, one to a byte,
  *          their bits the coefficients of a polynomial modulo x^4+x+1 (16) or
  *          x^8+x^4+x^3+x+1 (256, the field of FIPS 197).
- * shares   n, from 2 to 4.
+ * shares   n, from 2 to 4. hz_plain has none.
  * size     m, from 1 to 96: equations, and as many unknowns.
  * N        n(n-1)/2, the number of pairs of shares.
  * f        2 for field 16, 3 for field 256.
@@ -30,6 +31,7 @@
  * of a table of m(m+1)n bytes. A solve works in the table and leaves it changed:
  * to solve the same system again, deal it again.
  * A list of plain values has the m(m+1) entries in the same row order, a byte each.
+ * hz_plain only reads it.
  * The solution has m bytes: x_j is byte j-1. It is plain, not shared.
  *
  *
@@ -112,9 +114,9 @@ extern "C" {
 #define HZ_REFUSED    0 /* answer: number, detail */
 #define HZ_MOVED      1 /* step: done, and nothing was opened */
 #define HZ_OPENED     2 /* step: answer: j, x_j */
-#define HZ_STOPPED    3 /* step: answer: j.   solve: answer: j, steps, mask draws, nonzero draws */
+#define HZ_STOPPED    3 /* step, plain: answer: j.   solve: answer: j, steps, mask draws, nonzero draws */
 #define HZ_DONE       4 /* step: the last one. answer: x_1 */
-#define HZ_SOLVED     5 /* solve: answer: steps, mask draws, nonzero draws */
+#define HZ_SOLVED     5 /* solve: answer: steps, mask draws, nonzero draws.   plain: all 0 */
 #define HZ_FILLED     6 /* deal, gather */
 #define HZ_FRESH      7 /* start */
 #define HZ_COUNTS     8 /* counts: answer: steps, mask draws, nonzero draws */
@@ -208,6 +210,22 @@ uint64_t hz_solve(uint64_t field, uint64_t shares, uint64_t size,
                   uint8_t *solution, size_t solution_len,
                   const uint8_t *mask, size_t mask_len,
                   const uint8_t *nonzero, size_t nonzero_len,
+                  uint64_t *answer, size_t answer_len);
+
+/* Solves a system of plain values in the open, for the laboratory: ordinary
+ * elimination with exchange of rows. NOT FOR SECRETS: its branches and its
+ * addresses depend on the values. Its answer is that of hz_solve on any table
+ * whose hz_gather is these values, whatever the shares and the tapes.
+ *
+ * HZ_SOLVED: there is exactly one x, and the solution is it. All words of answer
+ *     are 0.
+ * HZ_STOPPED: answer: j. Column j of A is the first that is a combination of the
+ *     columns before it (or zero, for j = 1). All m bytes of the solution become 0.
+ * The values are only read.
+ * Refusals, in order: 1, 3, 4 (values m(m+1)), 5 (solution m), 6 (values). */
+uint64_t hz_plain(uint64_t field, uint64_t size,
+                  const uint8_t *values, size_t values_len,
+                  uint8_t *solution, size_t solution_len,
                   uint64_t *answer, size_t answer_len);
 
 /* Deals m(m+1) plain values into shares: for each, shares 2..n are the next
