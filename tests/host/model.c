@@ -229,6 +229,75 @@ static uint8_t open_unknown(task *t, uint64_t j)
     return x;
 }
 
+/* ---- The plain answer, by a basis of columns ----
+ *
+ * R-1's call eliminates on rows and exchanges them; here no row is ever changed. The
+ * columns of A are taken one by one, and what is kept of each is what is left of it
+ * once the kept ones before it are taken off. Where nothing is left of a column, the
+ * columns before it combine to it; otherwise each kept one is, by its mix, a
+ * combination of A's columns, and so is b. */
+
+typedef struct {
+    uint8_t entry[96]; /* m in use: one for each row */
+    uint8_t mix[96];   /* likewise, one for each column: the entries are those of A·mix (for b: plus b) */
+    uint64_t lead;     /* a row where the entry is 1, and 0 in all kept after it */
+} vector;
+
+/* Adds factor times what is kept. Sum and difference are the same. */
+static void add_times(uint64_t field, uint64_t m, vector *to, uint8_t factor, const vector *kept)
+{
+    for (uint64_t i = 0; i < m; i++) {
+        to->entry[i] ^= model_times(field, factor, kept->entry[i]);
+        to->mix[i] ^= model_times(field, factor, kept->mix[i]);
+    }
+}
+
+/* What is left once the first `count` kept ones are taken off. One taken off later
+ * is 0 at the leads before it, so what was cleared there stays so. */
+static void take_off(uint64_t field, uint64_t m, vector *from, const vector *kept, uint64_t count)
+{
+    for (uint64_t i = 0; i < count; i++)
+        add_times(field, m, from, from->entry[kept[i].lead], &kept[i]);
+}
+
+/* The last row where something is left, or m. */
+static uint64_t last_left(uint64_t m, const vector *v)
+{
+    for (uint64_t row = m; row > 0; row--)
+        if (v->entry[row - 1] != 0)
+            return row - 1;
+    return m;
+}
+
+/* Column c, from 0, of the values; column m is b. */
+static vector column_of(uint64_t m, const uint8_t *values, uint64_t c)
+{
+    vector v = {{0}, {0}, 0};
+    for (uint64_t row = 0; row < m; row++)
+        v.entry[row] = values[row * (m + 1) + c];
+    return v;
+}
+
+/* The first column, from 1, that the columns before it combine to; or 0, with x. */
+static uint64_t by_columns(uint64_t field, uint64_t m, const uint8_t *values, uint8_t *x)
+{
+    vector kept[96];
+    for (uint64_t c = 0; c < m; c++) {
+        vector left = column_of(m, values, c);
+        left.mix[c] = 1;
+        take_off(field, m, &left, kept, c);
+        left.lead = last_left(m, &left);
+        if (left.lead == m)
+            return c + 1;
+        kept[c] = (vector){{0}, {0}, left.lead};
+        add_times(field, m, &kept[c], inverse(field, left.entry[left.lead]), &left);
+    }
+    vector b = column_of(m, values, m);
+    take_off(field, m, &b, kept, m); /* m independent columns: nothing is left, b + A·mix is 0 */
+    memcpy(x, b.mix, m);
+    return 0;
+}
+
 /* ---- Counts ---- */
 
 uint64_t model_mask_draws(uint64_t field, uint64_t n, uint64_t m, uint64_t step, uint64_t j)
@@ -549,6 +618,31 @@ uint64_t model_solve(uint64_t field, uint64_t n, uint64_t m,
         return say(HZ_SOLVED, answer, steps, t.mask.taken, t.nonzero.taken, 0);
     memset(solution, 0, m);
     return say(HZ_STOPPED, answer, column, steps, t.mask.taken, t.nonzero.taken);
+}
+
+uint64_t model_plain(uint64_t field, uint64_t m,
+                     const uint8_t *values, size_t values_len,
+                     uint8_t *solution, size_t solution_len,
+                     uint64_t *answer, size_t answer_len)
+{
+    if (answer_len != HZ_ANSWER_WORDS)
+        return HZ_BAD_WORDS;
+    uint64_t detail, bad = bad_number(field, 2, m, &detail); /* there are no shares to refuse */
+    if (bad)
+        return refuse(answer, bad, detail);
+    if (values_len != m * (m + 1))
+        return refuse(answer, 4, m * (m + 1));
+    if (solution_len != m)
+        return refuse(answer, 5, m);
+    size_t large = first_large(field, values, values_len);
+    if (large < values_len)
+        return refuse(answer, 6, large);
+
+    uint64_t column = by_columns(field, m, values, solution);
+    if (column == 0)
+        return say(HZ_SOLVED, answer, 0, 0, 0, 0);
+    memset(solution, 0, m);
+    return say(HZ_STOPPED, answer, column, 0, 0, 0);
 }
 
 uint64_t model_deal(uint64_t field, uint64_t n, uint64_t m,

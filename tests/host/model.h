@@ -1,7 +1,7 @@
-/* An independent C implementation of the paper 01 for the calls of
- * hostozaro.h: each model_X answers as hz_X must. Written from the paper alone
- * (model_wanted, which the paper has not, from hostozaro.h), for clarity, and
- * used only to compare. */
+/* An independent C implementation of the paper 01, and of R-1 in 02, for the calls
+ * of hostozaro.h: each model_X answers as hz_X must. Written from the papers alone
+ * (model_wanted, which they have not, from hostozaro.h), for clarity, and used only
+ * to compare. */
 #ifndef MODEL_H
 #define MODEL_H
 
@@ -27,6 +27,12 @@ uint64_t model_solve(uint64_t field, uint64_t shares, uint64_t size,
                      uint8_t *solution, size_t solution_len,
                      const uint8_t *mask, size_t mask_len,
                      const uint8_t *nonzero, size_t nonzero_len,
+                     uint64_t *answer, size_t answer_len);
+
+/* By another way than the call's own: no elimination, but a basis of columns. */
+uint64_t model_plain(uint64_t field, uint64_t size,
+                     const uint8_t *values, size_t values_len,
+                     uint8_t *solution, size_t solution_len,
                      uint64_t *answer, size_t answer_len);
 
 uint64_t model_deal(uint64_t field, uint64_t shares, uint64_t size,
