@@ -135,7 +135,7 @@ static void stretch(buffer *b, size_t len)
 static uint64_t field, shares, size; /* what the next call is given */
 static uint64_t calls, calls_in_case;
 
-enum { START, WANTED, STEP, SOLVE, DEAL, GATHER, COUNTS, KINDS };
+enum { START, WANTED, STEP, SOLVE, PLAIN, DEAL, GATHER, COUNTS, KINDS };
 
 static const struct {
     const char *name;
@@ -146,6 +146,7 @@ static const struct {
     [WANTED] = {"hz_wanted", {&record, &answer}, {&record}},
     [STEP] = {"hz_step", {&record, &table, &solution, &mask, &nonzero, &answer}, {&mask, &nonzero}},
     [SOLVE] = {"hz_solve", {&table, &solution, &mask, &nonzero, &answer}, {&mask, &nonzero}},
+    [PLAIN] = {"hz_plain", {&values, &solution, &answer}, {&values}},
     [DEAL] = {"hz_deal", {&values, &table, &mask, &answer}, {&values, &mask}},
     [GATHER] = {"hz_gather", {&table, &values, &answer}, {&table}},
     [COUNTS] = {"hz_counts", {&answer}, {NULL}},
@@ -161,6 +162,8 @@ static void difference(void)
     if (last_kind == STEP || last_kind == WANTED)
         for (size_t i = 0; i < record.len; i++)
             printf("%s%" PRIu64, i == 0 ? " record " : ",", words(&record)[i]);
+    else if (last_kind == PLAIN)
+        printf(" field %" PRIu64 " size %" PRIu64, field, size);
     else
         printf(" field %" PRIu64 " shares %" PRIu64 " size %" PRIu64, field, shares, size);
     for (buffer *const *b = kinds[last_kind].lent; *b != NULL; b++) {
@@ -229,6 +232,8 @@ static void same_bytes(const buffer *b, const uint8_t *wanted, const char *whose
         case SOLVE:                                                                                                   \
             return side##_solve(field, shares, size, BYTES(copy, table), BYTES(copy, solution), BYTES(copy, mask),   \
                                 BYTES(copy, nonzero), WORDS(copy, answer));                                           \
+        case PLAIN:                                                                                                   \
+            return side##_plain(field, size, BYTES(copy, values), BYTES(copy, solution), WORDS(copy, answer));       \
         case DEAL:                                                                                                    \
             return side##_deal(field, shares, size, BYTES(copy, values), BYTES(copy, table), BYTES(copy, mask),      \
                                WORDS(copy, answer));                                                                  \
@@ -381,37 +386,6 @@ static void make_table(void)
             entry[0] ^= entry[s];
         }
     }
-}
-
-/* Solves the values without shares, by rows swapped and cleared. Returns the
- * first dependent column, or 0 with the solution in x. Spoils the values. */
-static uint64_t plain_solve(uint8_t *x)
-{
-    for (uint64_t j = 0; j < size; j++) {
-        uint64_t p = j;
-        while (p < size && *value(p, j) == 0)
-            p++;
-        if (p == size)
-            return j + 1;
-        for (uint64_t c = 0; c <= size && p != j; c++) {
-            uint8_t kept = *value(p, c);
-            *value(p, c) = *value(j, c);
-            *value(j, c) = kept;
-        }
-        uint8_t inverse = 1;
-        while (model_times(field, inverse, *value(j, j)) != 1)
-            inverse++;
-        for (uint64_t r = 0; r < size; r++) {
-            uint8_t factor = model_times(field, inverse, *value(r, j));
-            for (uint64_t c = j; c <= size && r != j && factor != 0; c++)
-                *value(r, c) ^= model_times(field, factor, *value(j, c));
-        }
-        for (uint64_t c = j; c <= size; c++)
-            *value(j, c) = model_times(field, inverse, *value(j, c));
-    }
-    for (uint64_t j = 0; j < size; j++)
-        x[j] = *value(j, size);
-    return 0;
 }
 
 /* ---- Tapes ---- */
@@ -633,17 +607,17 @@ static void case_spoilt(void)
     }
 }
 
-/* A whole solve; where it is accepted, its answer against the plain one. */
+/* A whole solve; where it is accepted, its answer against that of the values. */
 static void solve_and_check(void)
 {
     uint8_t x[96];
+    uint64_t told[HZ_ANSWER_WORDS];
     fresh_words();
     uint64_t code = call(SOLVE);
     if (code != HZ_SOLVED && code != HZ_STOPPED)
         return;
-    uint64_t column = plain_solve(x);
-    if (column != 0) {
-        demand(code == HZ_STOPPED && words(&answer)[0] == column, "not stopped at the first dependent column");
+    if (model_plain(field, size, values.lent, values.len, x, size, told, HZ_ANSWER_WORDS) == HZ_STOPPED) {
+        demand(code == HZ_STOPPED && words(&answer)[0] == told[0], "not stopped at the first dependent column");
         return;
     }
     demand(code == HZ_SOLVED, "stopped, though the columns are independent");
@@ -859,8 +833,20 @@ static void deal_and_gather(void)
     demand(memcmp(values.lent, dealt_values, values.len) == 0, "other values gathered than dealt");
 }
 
-/* Every field, number of shares and size: start, counts, deal and gather; and a
- * solve of each size, of the small ones for every field and number of shares. */
+/* The plain call on the values as they stand, which it must accept. */
+static uint64_t plain_answer(void)
+{
+    solution.len = size;
+    fill(solution.lent, size);
+    fresh_words();
+    uint64_t code = call(PLAIN);
+    demand(code == HZ_SOLVED || code == HZ_STOPPED, "a right system is refused");
+    return code;
+}
+
+/* Every field, number of shares and size: start, counts, deal and gather; the plain
+ * call once for each field and size; and a solve of each size, of the small ones
+ * for every field and number of shares. */
 #define ALL_SIZES (2 * 3 * 96)
 static void case_of_sizes(uint64_t i)
 {
@@ -871,6 +857,8 @@ static void case_of_sizes(uint64_t i)
     call(START);
     call(COUNTS);
     deal_and_gather();
+    if (shares == 2)
+        plain_answer();
     if (size <= 12 || size % 6 == i % 6)
         case_solve();
 }
@@ -961,7 +949,7 @@ static const struct {
     {STEP, &table, 4, false},   {STEP, &solution, 5, false},  {STEP, &mask, 7, false}, {STEP, &nonzero, 8, false},
     {SOLVE, &table, 4, false},  {SOLVE, &solution, 5, false}, {SOLVE, &mask, 7, true}, {SOLVE, &nonzero, 8, true},
     {DEAL, &values, 4, false},  {DEAL, &table, 5, false},     {DEAL, &mask, 7, true},
-    {GATHER, &table, 4, false}, {GATHER, &values, 5, false},
+    {GATHER, &table, 4, false}, {GATHER, &values, 5, false},  {PLAIN, &values, 4, false}, {PLAIN, &solution, 5, false},
 };
 #define LENGTHS (sizeof lengths / sizeof lengths[0])
 
@@ -1047,7 +1035,8 @@ static void nothing_there(void)
         *given[number - 1] = 97;
         words(&record)[number - 1] = 97;
         for (int kind = 0; kind < KINDS; kind++)
-            demand(call(kind) == HZ_REFUSED && words(&answer)[0] == number, "a wrong number is not refused");
+            if (kind != PLAIN || number != 2) /* hz_plain is given no shares */
+                demand(call(kind) == HZ_REFUSED && words(&answer)[0] == number, "a wrong number is not refused");
         *given[number - 1] = kept;
         words(&record)[number - 1] = kept;
     }
@@ -1085,6 +1074,259 @@ static void case_of_lengths(uint64_t i)
     nothing_there();
 }
 
+/* ---- The plain call ---- */
+
+/* Systems with their answer: those of 01, and those that came with R-1. */
+static const struct {
+    uint64_t field, size;
+    uint8_t values[12];
+    uint64_t stops; /* the column, 0 where there is x */
+    uint8_t x[3];
+} vectors[] = {
+    {16, 1, {2, 3}, 0, {8}},
+    {16, 1, {0, 0}, 1, {0}},
+    {16, 1, {0, 3}, 1, {0}},
+    {16, 2, {0, 1, 5, 1, 0, 7}, 0, {7, 5}},
+    {16, 2, {1, 2, 1, 2, 4, 2}, 2, {0}},
+    {16, 2, {0, 1, 5, 0, 3, 7}, 1, {0}},
+    {16, 2, {2, 1, 1, 1, 1, 0}, 0, {14, 14}},
+    {16, 3, {0, 0, 2, 4, 0, 3, 1, 7, 5, 1, 1, 9}, 0, {7, 3, 2}},
+    {256, 2, {0, 2, 1, 3, 0, 0x57}, 0, {0xc4, 0x8d}},
+    {256, 3, {1, 2, 3, 9, 2, 4, 6, 1, 7, 7, 1, 5}, 3, {0}},
+};
+#define ALL_VECTORS (sizeof vectors / sizeof vectors[0])
+
+/* The last plain call's answer is this one: a column, or x. */
+static void demand_plain(uint64_t stops, const uint8_t *x, const char *what)
+{
+    static const uint8_t zeros[96];
+    uint64_t told[HZ_ANSWER_WORDS] = {stops};
+    demand(memcmp(answer.lent, told, sizeof told) == 0 && memcmp(solution.lent, stops == 0 ? x : zeros, size) == 0, what);
+}
+
+static void case_of_vectors(uint64_t i)
+{
+    field = vectors[i].field;
+    size = vectors[i].size;
+    values.len = size * (size + 1);
+    memcpy(values.lent, vectors[i].values, values.len);
+    demand(plain_answer() == (vectors[i].stops == 0 ? HZ_SOLVED : HZ_STOPPED), "another answer than the paper's");
+    demand_plain(vectors[i].stops, vectors[i].x, "another column or x than the paper's");
+}
+
+/* Every set of the plain call's five faults. The first in its order is told, with
+ * its detail; both are worked out here and not by the model. */
+enum { BAD_FIELD = 1, BAD_SIZE = 2, BAD_VALUES = 4, BAD_SOLUTION = 8, LARGE_BYTE = 16, FAULT_SETS = 32 };
+
+static const uint64_t sizes_of_faults[] = {1, 2, 3, 8, 96};
+#define FAULT_ROUNDS 8
+#define ALL_FAULTS (FAULT_SETS * 2 * (sizeof sizes_of_faults / sizeof sizes_of_faults[0]) * FAULT_ROUNDS)
+
+/* Any number that a call must refuse for field or size. */
+static uint64_t refused_number(bool accepted(uint64_t))
+{
+    uint64_t number = absurd();
+    while (accepted(number))
+        number = absurd();
+    return number;
+}
+
+static bool is_field(uint64_t number)
+{
+    return number == 16 || number == 256;
+}
+
+static bool is_size(uint64_t number)
+{
+    return number >= 1 && number <= 96;
+}
+
+static void make_wrong(buffer *b)
+{
+    size_t right = b->len, wrong = wrong_length(right);
+    while (wrong == right)
+        wrong = wrong_length(right);
+    stretch(b, wrong);
+}
+
+/* The last fault of the order is made first, so that the first has the last word. */
+static void case_of_faults(uint64_t i)
+{
+    uint64_t faults = i % FAULT_SETS, number = 0, detail = 0;
+    field = i / FAULT_SETS % 2 == 0 ? 16 : 256;
+    size = sizes_of_faults[i / (FAULT_SETS * 2) / FAULT_ROUNDS];
+    make_values(RANDOM);
+    solution.len = size;
+    fill(solution.lent, size);
+    fresh_words();
+    if (faults & LARGE_BYTE) {
+        size_t first = below(values.len), other = first + below(values.len - first);
+        values.lent[other] = (uint8_t)(16 + below(240));
+        values.lent[first] = one_in(2) ? 16 : (uint8_t)(16 + below(240));
+        number = field == 16 ? 6 : 0;
+        detail = first;
+    }
+    if (faults & BAD_SOLUTION) {
+        number = 5;
+        detail = solution.len;
+        make_wrong(&solution);
+    }
+    if (faults & BAD_VALUES) {
+        number = 4;
+        detail = values.len;
+        make_wrong(&values);
+    }
+    if (faults & BAD_SIZE) {
+        number = 3;
+        detail = size = refused_number(is_size);
+    }
+    if (faults & BAD_FIELD) {
+        number = 1;
+        detail = field = refused_number(is_field);
+    }
+    uint64_t code = call(PLAIN), told[HZ_ANSWER_WORDS] = {number, detail};
+    demand((code == HZ_REFUSED) == (number != 0), "refused for nothing, or accepted with a fault");
+    demand(number == 0 || memcmp(answer.lent, told, sizeof told) == 0, "not refused by the first fault and its detail");
+}
+
+/* ---- Three ways to one answer ----
+ *
+ * R-1: the plain call's answer is that of the masked solve of any dealing. Each
+ * system here is solved by hz_plain, and by hz_deal and hz_solve in 2, 3 or 4
+ * shares; each call is compared with the model, whose plain answer comes from a
+ * basis of columns. And each is made so that its answer is known: half have one
+ * known x, and half a known first column that the columns before it combine to. */
+
+static uint64_t systems, singular_systems;
+static bool stop_met[8][8]; /* by size and column, both less 1 */
+
+static uint8_t known_x[96];
+
+static void add_row(uint64_t to, uint8_t factor, uint64_t from)
+{
+    for (uint64_t c = 0; c < size; c++)
+        *value(to, c) ^= model_times(field, factor, *value(from, c));
+}
+
+/* A = P·L·U, L and U triangular with no 0 on the diagonal and P any order of the
+ * rows: regular, and every regular matrix is one of these. Where most of L and U
+ * is 0, so are many pivots. */
+static void make_regular(void)
+{
+    uint64_t sparse = one_in(2) ? 4 : 1;
+    values.len = size * (size + 1);
+    for (uint64_t r = 0; r < size; r++)
+        for (uint64_t c = 0; c < size; c++)
+            *value(r, c) = c == r ? nonzero_element() : c > r && one_in(sparse) ? element() : 0;
+    for (uint64_t r = size; r-- > 0;) /* from the last row up: those above it are U's still */
+        for (uint64_t d = 0; d < r; d++)
+            add_row(r, one_in(sparse) ? element() : 0, d);
+    for (uint64_t r = size; r-- > 1;) {
+        uint64_t other = below(r + 1);
+        for (uint64_t c = 0; c < size; c++) {
+            uint8_t kept = *value(r, c);
+            *value(r, c) = *value(other, c);
+            *value(other, c) = kept;
+        }
+    }
+}
+
+/* b = A·x. */
+static void make_b(const uint8_t *x)
+{
+    for (uint64_t r = 0; r < size; r++) {
+        *value(r, size) = 0;
+        for (uint64_t c = 0; c < size; c++)
+            *value(r, size) ^= model_times(field, *value(r, c), x[c]);
+    }
+}
+
+/* The values dealt, and solved in shares: with the answer that hz_plain had. */
+static void compare_masked(uint64_t code, uint64_t stops, const uint8_t *x)
+{
+    table.len = values.len * shares;
+    fill(table.lent, table.len);
+    make_mask(values.len * (shares - 1));
+    demand(call(DEAL) == HZ_FILLED, "not dealt");
+    make_mask(full_mask());
+    make_nonzero(full_nonzero());
+    fill(solution.lent, size);
+    demand(call(SOLVE) == code, "hz_plain finds x where hz_solve stops, or the reverse");
+    demand(code == HZ_SOLVED || words(&answer)[0] == stops, "hz_plain stops at another column than hz_solve");
+    demand(memcmp(solution.lent, x, size) == 0, "hz_plain leaves another solution than hz_solve");
+}
+
+/* A system whose first dependent column is `stops`, or that has one x for 0. */
+static void compare_ways(uint64_t stops)
+{
+    make_regular();
+    for (uint64_t c = 0; c < size; c++)
+        known_x[c] = element();
+    for (uint64_t c = stops; stops != 0 && c <= size; c++)
+        if (c == stops || one_in(4))
+            make_dependent(c - 1);
+    make_b(known_x);
+    if (stops != 0 && one_in(2)) /* or else b fits, and it must stop all the same */
+        for (uint64_t r = 0; r < size; r++)
+            *value(r, size) = element();
+
+    uint64_t code = plain_answer();
+    demand(code == (stops == 0 ? HZ_SOLVED : HZ_STOPPED), "not the kind of system that was made");
+    demand_plain(stops, known_x, "another column or x than the system was made for");
+    systems++;
+    singular_systems += code == HZ_STOPPED;
+    if (code == HZ_STOPPED && size <= 8)
+        stop_met[size - 1][stops - 1] = true;
+
+    uint8_t x[96];
+    memcpy(x, solution.lent, size);
+    compare_masked(code, stops, x);
+}
+
+/* Sizes 1 to 8, and every column of each for a stop. */
+#define PLACES 36 /* 1 + 2 + .. + 8 */
+#define WAYS_ROUNDS 47
+#define ALL_WAYS (2 * 2 * 3 * PLACES * WAYS_ROUNDS)
+static void case_of_ways(uint64_t i)
+{
+    field = i / 2 % 2 == 0 ? 16 : 256;
+    shares = 2 + i / 4 % 3;
+    uint64_t column = 1 + i / 12 % PLACES;
+    for (size = 1; column > size; size++)
+        column -= size;
+    compare_ways(i % 2 == 0 ? 0 : column);
+}
+
+static const struct {
+    uint64_t field, shares, size;
+} large_ways[] = {
+    {16, 2, 9},   {256, 3, 9},  {16, 4, 12},  {256, 2, 15}, {16, 3, 16},  {256, 4, 17}, {16, 2, 24},  {256, 3, 31},
+    {256, 4, 32}, {16, 3, 33},  {256, 2, 48}, {16, 4, 48},  {256, 3, 64}, {16, 2, 64},  {256, 2, 96}, {16, 3, 96},
+};
+#define ALL_LARGE_WAYS (2 * (sizeof large_ways / sizeof large_ways[0]))
+static void case_of_large_ways(uint64_t i)
+{
+    field = large_ways[i / 2].field;
+    shares = large_ways[i / 2].shares;
+    size = large_ways[i / 2].size;
+    compare_ways(i % 2 == 0 ? 0 : 1 + below(size));
+}
+
+/* What a whole run must have gone through. */
+static void look_back(void)
+{
+    bool all_met = true;
+    for (uint64_t s = 0; s < 8; s++)
+        for (uint64_t c = 0; c <= s; c++)
+            all_met &= stop_met[s][c];
+    printf("three ways agree on %" PRIu64 " systems, of which %" PRIu64 " are singular\n", systems, singular_systems);
+    if (systems >= 20000 && 2 * singular_systems == systems && all_met)
+        return;
+    printf("these are too few, or not half, or a column of some size was never the first\n");
+    printf("%" PRIu64 " passed, 1 failed\n", calls);
+    exit(1);
+}
+
 /* Large systems, by steps and whole. */
 static const struct {
     uint64_t field, shares, size, system;
@@ -1093,8 +1335,7 @@ static const struct {
     {256, 3, 96, RANDOM},     {256, 4, 96, RANDOM},     {16, 3, 64, RANDOM},    {16, 4, 48, FITTING_B},
     {256, 2, 57, RANDOM},     {256, 4, 33, LAST_COLUMN},
 };
-#define CASES                                                                                                           \
-    (ALL_SMALL + ALL_LENGTHS + ALL_SIZES + ALL_REFUSED_SHARES + RANDOM_CASES + sizeof large / sizeof large[0])
+#define ALL_LARGE (sizeof large / sizeof large[0])
 
 static void case_large(uint64_t i)
 {
@@ -1104,36 +1345,10 @@ static void case_large(uint64_t i)
     case_trace(large[i].system, 64);
 }
 
-/* Large systems come last, so that a difference shows first in a small one. */
-static void run_case(void)
+/* One of the cases that are made up as a whole. */
+static void case_random(uint64_t i)
 {
-    state = seed * 0x2545f4914f6cdd1du ^ case_number * 0xd6e8feb86659fd93u;
-    calls_in_case = 0;
-    uint64_t i = case_number;
-    if (i < ALL_SMALL) {
-        case_of_places(i);
-        return;
-    }
-    i -= ALL_SMALL;
-    if (i < ALL_LENGTHS) {
-        case_of_lengths(i);
-        return;
-    }
-    i -= ALL_LENGTHS;
-    if (i < ALL_SIZES) {
-        case_of_sizes(i);
-        return;
-    }
-    i -= ALL_SIZES;
-    if (i < ALL_REFUSED_SHARES) {
-        case_of_refused_shares(i);
-        return;
-    }
-    i -= ALL_REFUSED_SHARES;
-    if (i >= RANDOM_CASES) {
-        case_large(i - RANDOM_CASES);
-        return;
-    }
+    (void)i; /* its numbers are the case's own as it is */
     switch (below(10)) {
     case 0:
     case 1:
@@ -1161,6 +1376,40 @@ static void run_case(void)
     }
 }
 
+/* The cases in the order of their numbers. Large systems come last, so that a
+ * difference shows first in a small one. */
+static const struct {
+    uint64_t count;
+    void (*run)(uint64_t i); /* i from 0 to count - 1 */
+} cases[] = {
+    {ALL_SMALL, case_of_places},
+    {ALL_LENGTHS, case_of_lengths},
+    {ALL_SIZES, case_of_sizes},
+    {ALL_REFUSED_SHARES, case_of_refused_shares},
+    {ALL_VECTORS, case_of_vectors},
+    {ALL_FAULTS, case_of_faults},
+    {ALL_WAYS, case_of_ways},
+    {RANDOM_CASES, case_random},
+    {ALL_LARGE_WAYS, case_of_large_ways},
+    {ALL_LARGE, case_large},
+};
+
+/* Runs the case of case_number; false where there is none. */
+static bool run_case(void)
+{
+    state = seed * 0x2545f4914f6cdd1du ^ case_number * 0xd6e8feb86659fd93u;
+    calls_in_case = 0;
+    uint64_t i = case_number;
+    for (size_t kind = 0; kind < sizeof cases / sizeof cases[0]; kind++) {
+        if (i < cases[kind].count) {
+            cases[kind].run(i);
+            return true;
+        }
+        i -= cases[kind].count;
+    }
+    return false;
+}
+
 int main(int argc, char **argv)
 {
     buffer *all[] = {&table, &solution, &values, &mask, &nonzero, &record, &answer};
@@ -1173,14 +1422,14 @@ int main(int argc, char **argv)
         make_buffer(all[i]);
     if (argc > 2) {
         case_number = strtoull(argv[2], NULL, 10);
-        if (case_number >= CASES) {
-            printf("there are cases 0 to %d only\n", (int)CASES - 1);
+        if (!run_case()) {
+            printf("there is no case %" PRIu64 "\n", case_number);
             return 2;
         }
-        run_case();
     } else {
-        for (case_number = 0; case_number < CASES; case_number++)
-            run_case();
+        while (run_case())
+            case_number++;
+        look_back();
     }
     printf("%" PRIu64 " passed, 0 failed\n", calls);
     return 0;
