@@ -1,8 +1,10 @@
 /* The program behind ./solve: a system comes in as numbers, is dealt into shares and
  * solved through the library, and x is printed once it is found to solve what was
- * typed.
+ * typed and the library's plain engine has the same. Or the plain engine solves it
+ * alone, in the open.
  *
  *     solve FIELD SHARES NAME [--steps] <SYSTEM
+ *     solve FIELD --plain NAME <SYSTEM
  *
  * NAME is what messages call the input. ./solve --help tells the rest. */
 #define _DEFAULT_SOURCE /* for explicit_bzero and getrandom */
@@ -31,6 +33,7 @@ static struct {
     uint8_t values[MOST * (MOST + 1)]; /* as typed, row by row, b last in each */
     uint8_t table[MOST * (MOST + 1) * MOST_SHARES];
     uint8_t x[MOST];
+    uint8_t plain_x[MOST]; /* the plain engine's, to compare */
     char word[32];
     char input[4096]; /* standard input's buffer */
 } secret;
@@ -344,7 +347,25 @@ static ending by_steps(void)
     return so_far;
 }
 
-/* ---- The check, and the answer ---- */
+/* The plain engine works in a copy of the values on the stack, and leaves it there.
+ * This goes over that place. */
+__attribute__((noinline)) static void wipe_stack(void)
+{
+    uint8_t all_below[1 << 16];
+    explicit_bzero(all_below, sizeof all_below);
+}
+
+static ending in_the_open(uint8_t *x)
+{
+    uint64_t code = hz_plain(field, size, secret.values, size * (size + 1), x, size, answer, HZ_ANSWER_WORDS);
+    wipe_stack();
+    if (code == HZ_STOPPED)
+        return (ending){.stopped = answer[0]};
+    must(code, HZ_SOLVED);
+    return (ending){0};
+}
+
+/* ---- The checks, and the answer ---- */
 
 /* The product in the field, bit by bit. The bit of x^w is the field's own number. */
 static unsigned times(unsigned a, unsigned b)
@@ -372,7 +393,38 @@ static bool solves(void)
     return true;
 }
 
-static void print_answer(ending end)
+/* Ends the program where x was found that does not solve the system. */
+static void must_solve(ending end)
+{
+    if (end.stopped != 0 || solves())
+        return;
+    fprintf(stderr, "solve: the library's x does not solve the system: please report this\n");
+    exit(WRONG);
+}
+
+static void say_ended(const char *which, ending end, const char *found)
+{
+    if (end.stopped == 0)
+        fprintf(stderr, "the %s engine %s", which, found);
+    else
+        fprintf(stderr, "the %s engine stops at column %" PRIu64, which, end.stopped);
+}
+
+/* Ends the program where the plain engine has another answer for what was typed. */
+static void must_agree(ending masked)
+{
+    ending plain = in_the_open(secret.plain_x);
+    if (masked.stopped == plain.stopped && (masked.stopped != 0 || memcmp(secret.x, secret.plain_x, size) == 0))
+        return;
+    fputs("solve: ", stderr);
+    say_ended("masked", masked, "finds x");
+    fputs(", but ", stderr);
+    say_ended("plain", plain, masked.stopped == 0 ? "another" : "finds x");
+    fputs(": please report this\n", stderr);
+    exit(WRONG);
+}
+
+static void print_answer(ending end, bool masked)
 {
     if (end.stopped == 0) {
         for (size_t c = 0; c < size; c++)
@@ -382,8 +434,12 @@ static void print_answer(ending end)
         printf("stopped at column %" PRIu64 ": it is %s, so there is not exactly one x, whatever b is\n", end.stopped,
                end.stopped == 1 ? "zero" : "a combination of the columns before it");
     }
-    printf("steps %" PRIu64 ", mask draws %" PRIu64 ", nonzero draws %" PRIu64 "\n", end.steps, end.mask_draws,
-           end.nonzero_draws);
+    if (masked)
+        printf("agreed: the plain engine %s\nsteps %" PRIu64 ", mask draws %" PRIu64 ", nonzero draws %" PRIu64 "\n",
+               end.stopped == 0 ? "has the same x" : "stops at the same column", end.steps, end.mask_draws,
+               end.nonzero_draws);
+    else
+        printf("plain: worked out in the open, nothing was masked\n");
     if (fflush(stdout) != 0)
         trouble("printing the answer");
 }
@@ -396,16 +452,17 @@ int main(int argc, char **argv)
     field_typed = argv[1];
     shares_typed = argv[2];
     input_name = argv[3];
+    bool masked = strcmp(shares_typed, "--plain") != 0;
     field = number_typed(field_typed);
-    shares = number_typed(shares_typed);
+    shares = masked ? number_typed(shares_typed) : 2; /* none are dealt then, but hz_counts asks for a number */
     ask_counts(1); /* so that nobody types a system for a field that there is not */
     read_system();
-    deal();
-    ending end = argc == 5 ? by_steps() : in_one_call();
-    if (end.stopped == 0 && !solves()) {
-        fprintf(stderr, "solve: the library's x does not solve the system: please report this\n");
-        return WRONG;
-    }
-    print_answer(end);
+    if (masked)
+        deal();
+    ending end = !masked ? in_the_open(secret.x) : argc == 5 ? by_steps() : in_one_call();
+    must_solve(end);
+    if (masked)
+        must_agree(end);
+    print_answer(end, masked);
     return ANSWERED;
 }

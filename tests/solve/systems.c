@@ -3,7 +3,8 @@
  *     systems FOLDER SEED
  *
  * prints 'FIELD SHARES FILE' for each. FILE.wanted holds what ./solve must print of
- * it, worked out by the model of tests/host. */
+ * it and FILE.plain what ./solve --plain must, each worked out by the model's call of
+ * tests/host that is like the library's. */
 #include "hostozaro.h"
 #include "model.h"
 
@@ -79,30 +80,49 @@ static void write_typed(FILE *to)
     }
 }
 
+/* The lines that tell the answer: column `stops`, or x where it is 0. */
+static void write_answer(FILE *to, uint64_t stops, const uint8_t *x)
+{
+    if (stops == 0) {
+        for (uint64_t c = 0; c < m; c++)
+            fprintf(to, "%s%d", c == 0 ? "x = " : ", ", x[c]);
+        fprintf(to, "\nchecked: A x = b for the numbers as typed\n");
+    } else {
+        fprintf(to, "stopped at column %" PRIu64 ": it is %s, so there is not exactly one x, whatever b is\n", stops,
+                stops == 1 ? "zero" : "a combination of the columns before it");
+    }
+}
+
 /* The answer depends on no draw, so these tapes are as good as any. */
 static void write_wanted(FILE *to)
 {
     static uint8_t zeros[3778608], ones[96 * 3], table[96 * 97 * 4];
     uint8_t x[96];
-    uint64_t answer[HZ_ANSWER_WORDS], *counts = answer;
+    uint64_t answer[HZ_ANSWER_WORDS], *counts = answer, stops = 0;
     memset(ones, 1, sizeof ones);
     model_deal(field, n, m, values, m * (m + 1), table, m * (m + 1) * n, zeros, sizeof zeros, answer, HZ_ANSWER_WORDS);
     if (model_solve(field, n, m, table, m * (m + 1) * n, x, m, zeros, sizeof zeros, ones, sizeof ones, answer,
-                    HZ_ANSWER_WORDS) == HZ_SOLVED) {
-        for (uint64_t c = 0; c < m; c++)
-            fprintf(to, "%s%d", c == 0 ? "x = " : ", ", x[c]);
-        fprintf(to, "\nchecked: A x = b for the numbers as typed\n");
-    } else {
-        fprintf(to, "stopped at column %" PRIu64 ": it is %s, so there is not exactly one x, whatever b is\n", answer[0],
-                answer[0] == 1 ? "zero" : "a combination of the columns before it");
-        counts++;
-    }
+                    HZ_ANSWER_WORDS) == HZ_STOPPED)
+        stops = *counts++;
+    write_answer(to, stops, x);
+    fprintf(to, "agreed: the plain engine %s\n", stops == 0 ? "has the same x" : "stops at the same column");
     fprintf(to, "steps %" PRIu64 ", mask draws %" PRIu64 ", nonzero draws %" PRIu64 "\n", counts[0], counts[1], counts[2]);
 }
 
-static void write_file(const char *name, void (*write)(FILE *))
+static void write_plain(FILE *to)
 {
-    FILE *to = fopen(name, "w");
+    uint8_t x[96];
+    uint64_t answer[HZ_ANSWER_WORDS];
+    model_plain(field, m, values, m * (m + 1), x, m, answer, HZ_ANSWER_WORDS);
+    write_answer(to, answer[0], x);
+    fprintf(to, "plain: worked out in the open, nothing was masked\n");
+}
+
+static void write_file(const char *name, const char *end, void (*write)(FILE *))
+{
+    char whole[4200];
+    snprintf(whole, sizeof whole, "%s%s", name, end);
+    FILE *to = fopen(whole, "w");
     if (to == NULL)
         exit(2);
     write(to);
@@ -120,15 +140,15 @@ int main(int argc, char **argv)
         for (n = 2; n <= 4; n++)
             for (size_t s = 0; s < sizeof sizes / sizeof sizes[0]; s++)
                 for (int kind = 0; kind < KINDS; kind++) {
-                    char name[4096], wanted[4200];
+                    char name[4096];
                     m = sizes[s];
                     if (m == 96 && kind != (int)(n % 3)) /* the largest take longest */
                         continue;
                     make_values(kind);
                     snprintf(name, sizeof name, "%s/%" PRIu64 "-%" PRIu64 "-%" PRIu64 "-%d.txt", argv[1], field, n, m, kind);
-                    snprintf(wanted, sizeof wanted, "%s.wanted", name);
-                    write_file(name, write_typed);
-                    write_file(wanted, write_wanted);
+                    write_file(name, "", write_typed);
+                    write_file(name, ".wanted", write_wanted);
+                    write_file(name, ".plain", write_plain);
                     printf("%" PRIu64 " %" PRIu64 " %s\n", field, n, name);
                 }
     return 0;
