@@ -105,7 +105,7 @@
 extern "C" {
 #endif
 
-#define HZ_VERSION "0.9" /* ./install takes it from here for pkg-config */
+#define HZ_VERSION "0.10" /* ./install takes it from here for pkg-config */
 
 #define HZ_RECORD_WORDS 6
 #define HZ_ANSWER_WORDS 4
