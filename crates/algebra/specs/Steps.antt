@@ -18,7 +18,7 @@ module _ (m w : ℕ) where
     pub new : (c : ℕ) → j ≤ c → c ≤ w → U i c ≡ f c
     pub kept : (r c : ℕ) → In r c → (r ≡ i → c < j) → U r c ≡ T r c
 
-  -- rows i and s are exchanged in columns j and up, and every other entry is as it was
+  -- R-1's exchange, which is no step of 01: rows i and s change places in columns j and up, and every other entry is as it was
   pub record Exchanges (i s j : ℕ) (T U : Table) : Type 0 where
     pub up : (c : ℕ) → j ≤ c → c ≤ w → U i c ≡ T s c
     pub down : (c : ℕ) → j ≤ c → c ≤ w → U s c ≡ T i c

@@ -1,5 +1,5 @@
--- What the theorems about a solve are stated with, beside `Means`: what it is given and what it leaves, when two solves are alike, the table
--- that Deal gives, and independence in the usual sense.
+-- What the theorems about a solve are stated with, beside `Means`: what it is given, when two tables are of the same values, the table that
+-- Deal gives, and independence in the usual sense.
 -- Assumes nothing.
 use mathlib.Core.List.{List}
 use mathlib.Core.Path.{_≡_}
