@@ -5,7 +5,7 @@ use course::Place;
 use course::Progress;
 use solver::Starting;
 use solver::Stepping;
-use verdict::Refusal;
+use solver::Wanting;
 
 // The nonzero draws of F16, each once; the largest system takes as many.
 const NONZERO: [u8; 15] = *b"\xba\x9f\x16\x53\xc1\x8d\x72\x2e\xe9\x34\x0b\xf7\x65\xd8\x4c";
@@ -79,21 +79,6 @@ fn whole(o: Order, table: &mut [u8], x: &mut [u8], mask: &[u8]) {
     show_left(table, x);
 }
 
-// How many draws a step wants: a refusal tells, and changes nothing. One tape is lent as both: 7 tells the mask draws where it has more
-// than these, and 8 the nonzero draws, which are always fewer, where it has just these.
-fn wanted(p: Progress, table: &mut [u8], x: &mut [u8], tape: &[u8]) -> usize {
-    let s = solver::step(p, table, x, tape, tape);
-    let a = s.answer;
-    match a {
-        Stepping::Refused(r) => match r {
-            Refusal::MaskTape(k) => k,
-            Refusal::NonzeroTape(k) => k,
-            _ => 0,
-        },
-        _ => 0,
-    }
-}
-
 // The table is shown after each step where it is small, and after the last one where it is not.
 fn show_step(place: Place, answer: Stepping, table: &[u8], size: usize) {
     show::say_place(show::of_place(place));
@@ -115,48 +100,41 @@ fn act(p: Progress, table: &mut [u8], x: &mut [u8], mask: &[u8], nonzero: &[u8])
     next
 }
 
-// A step that is lent its mask draws, which r counts already: its nonzero draws begin at its own first one.
-fn lend(r: Run, table: &mut [u8], x: &mut [u8], mask: &[u8]) -> Run {
+// A step that is lent so many draws, of each tape from where the run has come to.
+fn lend(r: Run, draws: usize, others: usize, table: &mut [u8], x: &mut [u8], mask: &[u8]) -> Run {
     let p = r.record;
-    let a = r.nonzero;
-    let k = wanted(p, table, x, mask);
-    if 15 < a {
+    let a = r.mask;
+    let b = r.nonzero;
+    if mask.len() < a {
         return r;
     }
-    if 15 - a < k {
+    if mask.len() - a < draws {
         return r;
     }
-    let e = a + k;
+    if 15 < b {
+        return r;
+    }
+    if 15 - b < others {
+        return r;
+    }
+    let d = a + draws;
+    let e = b + others;
     let nonzero = NONZERO;
-    let record = act(p, table, x, mask, &nonzero[a..e]);
+    let record = act(p, table, x, &mask[a..d], &nonzero[b..e]);
     Run {
         record,
-        mask: r.mask,
+        mask: d,
         nonzero: e,
     }
 }
 
-// One step. Each draws from the mask tape, so a record that wants nothing has ended, and the run stays as it is.
+// One step, lent what its record wants. A record that has ended wants nothing, and the run stays as it is.
 fn one(r: Run, table: &mut [u8], x: &mut [u8], mask: &[u8]) -> Run {
     let p = r.record;
-    let a = r.mask;
-    let k = wanted(p, table, x, mask);
-    if k == 0 {
-        return r;
+    match solver::wanted(p) {
+        Wanting::Wanted(draws, others) => lend(r, draws, others, table, x, mask),
+        Wanting::Refused(_) => r,
     }
-    if mask.len() < a {
-        return r;
-    }
-    if mask.len() - a < k {
-        return r;
-    }
-    let e = a + k;
-    let counted = Run {
-        record: p,
-        mask: e,
-        nonzero: r.nonzero,
-    };
-    lend(counted, table, x, &mask[a..e])
 }
 
 // All steps of the list: the largest one has 35.
