@@ -13,7 +13,7 @@ use Rattle.table.specs.Layout.{tableBytes}
 use Rattle.verdict.specs.Told.{passed, _or_}
 use Rattle.verdict.specs.Refusals.{no1, no3, buffers}
 use Rattle.verdict.proofs.Told.{left, right}
-use Rattle.verdict.proofs.Passes.{one-says, one-passes, three-says, three-passes, six-says, Buffers, buffered, buffers-pass, _and_}
+use Rattle.verdict.proofs.Passes.{one-says, one-passes, three-says, three-passes, Buffers, buffered, buffers-pass, _and_}
 use Rattle.plain.specs.Calls.{plainOrder}
 
 module _ (f m : ℕ) (values : List ℕ) (long : ℕ) where
@@ -38,7 +38,7 @@ module _ (f m : ℕ) (values : List ℕ) (long : ℕ) where
         most = three .1;
         entries = lent .whole;
         room = lent .room;
-        elements = six-says f values (lent .elements);
+        elements = lent .elements;
       }
 
   pub admits : Admitted → plainOrder f m values long ≡ passed

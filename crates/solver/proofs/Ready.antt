@@ -13,6 +13,7 @@ use lib.ListN.{length, take}
 use borrow.Author.Tests.{not-false, eq-eqb, ne-eqb}
 use Rattle.field.specs.Field.{fieldOf}
 use Rattle.sharing.specs.Rules.{blindedValue}
+use Rattle.sharing.specs.Lists.{Below}
 use Rattle.sharing.specs.Bounds.{mostRows, mostWidth, mostEntries}
 use Rattle.table.specs.Layout.{Inside, tableBytes, entry}
 use Rattle.table.specs.Costs.{scaleNonzero}
@@ -30,7 +31,7 @@ use Rattle.verdict.specs.Told.{passed, _or_}
 use Rattle.verdict.specs.Refusals.{no1, no2, no3, no4, no5, no6, no7, no8, no7step, no8step, no9, numbers, buffers}
 use Rattle.solver.specs.Refusals.{placed, ended, entries, wholeTable, dealDraws, costAt, maskAt, nonzeroAt, zeroPivot, no10, no11, no12, sizes, dealOrder, gatherOrder, tapes, solveOrder, standing, wantedOrder, placing, lending, stepOrder}
 use Rattle.verdict.proofs.Told.{left, right, not-then}
-use Rattle.verdict.proofs.Passes.{one-says, two-says, three-says, same, enough, nine-says, Buffers, buffered}
+use Rattle.verdict.proofs.Passes.{one-says, two-says, three-says, same, enough, six-says, nine-says, Buffers, buffered}
 
 -- 1 to 3 passed
 pub sized : (o : Order) → sizes o ≡ passed → Sizes o
@@ -150,7 +151,7 @@ placing-says o place table solution e =
 
 -- 6 to 9 passed
 pub record Supplied (o : Order) (place : Place) (t : List ℕ) (mask : ℕ) (nonzero : List ℕ) : Type 0 where
-  pub elements : no6 (o .field) t ≡ passed
+  pub elements : Below (fieldOf (o .field) .q) t
   pub masks : mask ≡ maskAt o place
   pub others : length nonzero ≡ nonzeroAt o place
   pub nonzeros : no9 (o .field) nonzero ≡ passed
@@ -164,7 +165,7 @@ lending-says o place t mask nonzero e =
     let f = no9 (o .field) nonzero in
     let three : a or b or d ≡ passed = left (a or b or d) f e in
     record {
-      elements = left a b (left (a or b) d three);
+      elements = six-says (o .field) t (left a b (left (a or b) d three));
       masks = same 7 _ (right a b (left (a or b) d three));
       others = same 8 _ (right (a or b) d three);
       nonzeros = right (a or b or d) f e;

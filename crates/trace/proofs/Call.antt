@@ -18,7 +18,7 @@ use Rattle.solver.specs.Refusals.{placed, ended, costAt, stepOrder}
 use Rattle.verdict.specs.Calls.{refuses, call}
 use Rattle.solver.specs.Calls.{stepDoes, stepCall}
 use Rattle.trace.specs.Trace.{Beside, Host, called, lends, hostAfter, orderIn, Refused, Accepted}
-use Rattle.verdict.proofs.Passes.{six-says, nine-says}
+use Rattle.verdict.proofs.Passes.{nine-says}
 use Rattle.solver.proofs.Ready.{Going, going}
 
 -- a step writes the solution as 01 says
@@ -55,7 +55,7 @@ module _ (h : Host) (c : Beside) where
       place = e;
       listed = w .at .listed;
       table = w .at .whole;
-      elements = six-says (orderIn h .field) (h .table) (w .lent .elements);
+      elements = w .lent .elements;
       solution = w .at .room;
       mask = w .lent .masks;
       nonzero = w .lent .others;

@@ -20,7 +20,6 @@ use Rattle.verdict.specs.Told.{Told, passed, refused}
 use Rattle.solver.specs.Refusals.{entries, wholeTable, dealOrder, solveOrder}
 use Rattle.verdict.specs.Calls.{refuses, gives, after, call}
 use Rattle.solver.specs.Calls.{filled, dealCall, gatherCall}
-use Rattle.verdict.proofs.Passes.{six-says}
 use Rattle.solver.proofs.Ready.{Dealing, dealing}
 use Rattle.trace.proofs.Admitted.{gather-passes, solve-passes}
 
@@ -62,13 +61,10 @@ module _ (o : Order) (values mask table : List ℕ) where
     elements : Below (fieldOf (o .field) .q) (dealt (o .field) (o .shares) (entries (o .size)) values mask table)
     elements = dealt-below (o .field) (o .shares) some values mask (entries (o .size)) table size
 
-    values-below : Below (fieldOf (o .field) .q) values
-    values-below = six-says (o .field) values (lent .lent .elements)
-
     -- the sums of what Deal left are the values
     pub gathered-values : gathered (o .field) (o .shares) (entries (o .size)) (dealCall o values mask table .left) ≡ values
     gathered-values =
-        rw left (gather-deal (o .field) (o .shares) some values mask (entries (o .size)) table size (lent .lent .whole) (λ i l. values-below .at i))
+        rw left (gather-deal (o .field) (o .shares) some values mask (entries (o .size)) table size (lent .lent .whole) (λ i l. lent .lent .elements .at i))
 
     -- Gather then answers filled, with the values
     pub gather-after-deal : (out : List ℕ) → length out ≡ entries (o .size)
@@ -92,4 +88,4 @@ module _ (o : Order) (values mask table : List ℕ) where
         → valueOf o (dealCall o values mask table .left) r c ≡ getD values ((r - 1) * (o .size + 1) + (c - 1)) 0
     unfolding entries
     dealt-values r c a b d e =
-        rw left (dealtFor-value o some values mask table (lent .lent .room) r c a b d e ∙ mod-eq-of-lt (values-below .at _))
+        rw left (dealtFor-value o some values mask table (lent .lent .room) r c a b d e ∙ mod-eq-of-lt (lent .lent .elements .at _))

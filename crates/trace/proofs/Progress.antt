@@ -31,7 +31,7 @@ use Rattle.verdict.specs.Told.{passed}
 use Rattle.solver.specs.Refusals.{wholeTable, solveOrder, costAt, maskAt, nonzeroAt}
 use Rattle.verdict.specs.Calls.{gives}
 use Rattle.solver.specs.Calls.{solveDoes, solveCall}
-use Rattle.verdict.proofs.Passes.{six-says, nine-says}
+use Rattle.verdict.proofs.Passes.{nine-says}
 use Rattle.solver.proofs.Ready.{Solvable, solvable}
 use Rattle.trace.specs.Trace.{Beside, Host, begin, hostAfter, drive, Refused, Accepted, countsIn, Begins, Agrees, Admitted, Fit, calls, driven, Supplies, Ended, Own}
 use Rattle.trace.proofs.Admitted.{step-passes}
@@ -216,7 +216,7 @@ module _ (o : Order) (t y ms zs : List ℕ) (passes : solveOrder o t (length y) 
       let k : ℕ = length (stepList (o .size)) in
       let cs : List Beside = calls (cut o ms zs) k fresh in
       let b = cuts k in
-      let a : Admitted o t = record { whole = checked .lent .whole; elements = six-says (o .field) t (checked .lent .elements) } in (
+      let a : Admitted o t = record { whole = checked .lent .whole; elements = checked .lent .elements } in (
         cs,
         owns k,
         reaches o (checked .sizes) t y a (cut o ms zs) cut-fits,

@@ -136,7 +136,7 @@ module _ (f wanted : ℕ) (input : List ℕ) (target long : ℕ) where
   pub record Buffers : Type 0 where
     pub whole : length input ≡ wanted
     pub room : long ≡ target
-    pub elements : no6 f input ≡ passed
+    pub elements : Below (fieldOf f .q) input
 
   pub buffered : buffers f wanted input target long ≡ passed → Buffers
   unfolding buffers no4 no5
@@ -147,7 +147,7 @@ module _ (f wanted : ℕ) (input : List ℕ) (target long : ℕ) where
       record {
         whole = same 4 _ (left a b two);
         room = same 5 _ (right a b two);
-        elements = right (a or b) (no6 f input) e;
+        elements = six-says f input (right (a or b) (no6 f input) e);
       }
 
   pub buffers-pass : length input ≡ wanted → long ≡ target → Below (fieldOf f .q) input → buffers f wanted input target long ≡ passed
