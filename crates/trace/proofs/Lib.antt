@@ -1,4 +1,4 @@
-pub mod Verdict
+pub mod Numbers
 pub mod Admitted
 pub mod Call
 pub mod Own

@@ -1,9 +1,9 @@
 -- Demand 3: what a host does by step calls, however many and with refused ones among them, and the whole solve are one and the same. `o` is
 -- an order of right sizes, t any first table, y any first solution, and cs any calls from a record of Start.
 -- Assumes nothing.
-use mathlib.Core.Bool.{true, false, not}
+use mathlib.Core.Bool.{true, not, false≢true}
 use mathlib.Core.List.{List, [], _∷_, _++_}
-use mathlib.Core.Logic.{_⊎_}
+use mathlib.Core.Logic.{_⊎_, inl, inr}
 use mathlib.Core.Path.{_≡_, refl, ap, _∙_}
 use Prim.Native.Nat.{ℕ}
 use lib.ListN.{length, getD}
@@ -16,22 +16,32 @@ use Rattle.course.specs.StepList.{Sizes, stepList}
 use Rattle.course.proofs.Along.{Along, first, none, along-in, stop-in, counted-done, counted-stop}
 use Rattle.walk.specs.Act.{held}
 use Rattle.walk.specs.Walk.{Course, running, courseOf, walk, fresh, conclude, solved}
-use Rattle.verdict.specs.Told.{passed}
+use Rattle.verdict.specs.Told.{Told, passed}
 use Rattle.verdict.specs.Refusals.{outside}
-use Rattle.solver.specs.Refusals.{placed, solveOrder}
+use Rattle.solver.specs.Refusals.{placed, no10, no12, solveOrder}
 use Rattle.verdict.specs.Calls.{call}
 use Rattle.solver.specs.Calls.{solveDoes, solveCall}
-use Rattle.trace.specs.Trace.{Beside, Host, begin, hostAfter, drive, orderIn, Refused, Accepted, countsIn, Counted, Begins, Agrees, Never}
-use Rattle.trace.proofs.Verdict.{tests, never-given}
+use Rattle.trace.specs.Trace.{Beside, Host, begin, hostAfter, drive, orderIn, Refused, Accepted, countsIn, Counted, Begins, Agrees, oneOf, Only, possible, Never}
+use Rattle.verdict.proofs.Passes.{unmet, one-passes, two-passes, three-passes}
+use Rattle.trace.proofs.Numbers.{checks, Each, _also_, not-given, given}
 use Rattle.trace.proofs.Call.{each-call, refusal}
 use Rattle.walk.proofs.Walked.{walk-append, walk-stopped}
 use Rattle.trace.proofs.Reached.{tallyOf, Reached, reached, order-kept}
 
--- a refusal whose test does not hold is not given
-pub unmet : (h : Host) (c : Beside) (k : ℕ)
-    → getD (tests (orderIn h) (h .progress .place) (h .table) (length (c .solution)) (length (c .mask)) (c .nonzero)) k false ≡ false → Never k h c
-unmet h c k e l g =
-    never-given (orderIn h) (h .progress .place) (h .table) (length (c .solution)) (length (c .mask)) (c .nonzero) k e .never l (refusal h c l g)
+-- the checks of a call, each at its number
+abbrev pub checksOf : Host → Beside → List Told
+checksOf h c = checks (orderIn h) (h .progress .place) (h .table) (length (c .solution)) (length (c .mask)) (c .nonzero)
+
+-- a number whose check passes is not given
+pub never : (h : Host) (c : Beside) (k : ℕ) → getD (checksOf h c) k passed ≡ passed → Never k h c
+never h c k e l g =
+    not-given (orderIn h) (h .progress .place) (h .table) (length (c .solution)) (length (c .mask)) (c .nonzero) k e l (refusal h c l g)
+
+-- what is given is one of some numbers, where the check of each other number passes
+only : (h : Host) (c : Beside) (ns : List ℕ) → Each (λ k. oneOf k ns ≡ true) (checksOf h c) → Only ns h c
+only h c ns each l g =
+    given (orderIn h) (h .progress .place) (h .table) (length (c .solution)) (length (c .mask)) (c .nonzero) (λ k. oneOf k ns ≡ true) each l
+    (refusal h c l g)
 
 -- a run is its calls one by one
 pub last-call : (h : Host) (cs : List Beside) (c : Beside) → drive h (cs ++ (c ∷ [])) ≡ hostAfter (drive h cs) c
@@ -115,10 +125,33 @@ module _ (o : Order) (sized : Sizes o) (t y : List ℕ) (cs : List Beside) where
     unfolding solveCall call
     agrees-call e = rw e agrees
 
-  -- 4. Refusals 10 and 12 are not met
+  -- 4. A refused call has one of those numbers, whatever it lends. Each number from 0 on: its check passes, or it is one of them
+  pub refused-by : (c : Beside) → Only possible d c
+  unfolding Each oneOf no10 no12
+  refused-by c =
+      let g = reached o sized t y cs in
+      only d c possible
+      (rw (order-kept o sized t y cs)
+      (inl refl
+      also inl (one-passes (o .field) (sized .field))
+      also inl (two-passes (o .shares) (sized .two) (sized .four))
+      also inl (three-passes (o .size) (sized .some) (sized .most))
+      also inr refl
+      also inr refl
+      also inr refl
+      also inr refl
+      also inr refl
+      also inr refl
+      also inl (unmet 10 _ (ap not (placed-at o t y d g (d .progress .place) refl)))
+      also inr refl
+      also inl (unmet 12 _ (g .firm))
+      also tt))
+
+  -- so refusals 10 and 12 are not met
   pub never-off-list : (c : Beside) → Never 10 d c
-  never-off-list c =
-      unmet d c 10 (rw (order-kept, placed-at o t y d (reached o sized t y cs) (d .progress .place) refl))
+  unfolding oneOf
+  never-off-list c l g e = let z = rw e at (refused-by c l g) in false≢true z
 
   pub never-zero-pivot : (c : Beside) → Never 12 d c
-  never-zero-pivot c = unmet d c 12 (rw order-kept (reached o sized t y cs .firm))
+  unfolding oneOf
+  never-zero-pivot c l g e = let z = rw e at (refused-by c l g) in false≢true z

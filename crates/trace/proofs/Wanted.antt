@@ -1,18 +1,18 @@
 -- What `wanted` says is what the next call must be lent: a call with these lengths is not refused 7 or 8.
 -- Assumes nothing.
-use mathlib.Core.Bool.{not}
 use mathlib.Core.Path.{_≡_, refl, ap, _∙_}
 use Prim.Native.Nat.{ℕ}
 use native.Mathlib.Omega.{arith}
 use lib.ListN.{length}
-use borrow.Author.Tests.{eq-eqb}
 use Rattle.course.specs.declared.Draws.{Draws}
 use Rattle.verdict.specs.Told.{Told, passed, refused}
+use Rattle.verdict.specs.Refusals.{no7step, no8step}
 use Rattle.solver.specs.Refusals.{costAt, wantedOrder}
 use Rattle.verdict.specs.Calls.{refuses, gives, call}
 use Rattle.solver.specs.Calls.{wantedCall}
 use Rattle.trace.specs.Trace.{Beside, Host, orderIn, Never}
-use Rattle.trace.proofs.Trace.{unmet}
+use Rattle.verdict.proofs.Passes.{right-length}
+use Rattle.trace.proofs.Trace.{never}
 
 module _ (h : Host) (c : Beside) (d : Draws) where
   told : (w : Told) → wantedOrder (orderIn h) (h .progress .place) ≡ w → wantedCall (h .progress) .says ≡ gives d
@@ -31,7 +31,9 @@ module _ (h : Host) (c : Beside) (d : Draws) where
     wants = told (wantedOrder (orderIn h) (h .progress .place)) refl says
 
     pub wanted-mask : length (c .mask) ≡ d .mask → Never 7 h c
-    wanted-mask l = unmet h c 7 (ap not (eq-eqb _ _ (l ∙ ap (λ (e : Draws). e .mask) wants)))
+    unfolding no7step
+    wanted-mask l = never h c 7 (right-length 7 _ (l ∙ ap (λ (e : Draws). e .mask) wants))
 
     pub wanted-nonzero : length (c .nonzero) ≡ d .nonzero → Never 8 h c
-    wanted-nonzero l = unmet h c 8 (ap not (eq-eqb _ _ (l ∙ ap (λ (e : Draws). e .nonzero) wants)))
+    unfolding no8step
+    wanted-nonzero l = never h c 8 (right-length 8 _ (l ∙ ap (λ (e : Draws). e .nonzero) wants))

@@ -1,0 +1,219 @@
+-- By which numbers a call can be refused: each call by those of its order, and a step call by a number whose own check refuses.
+-- Assumes nothing.
+use mathlib.Core.Bool.{Bool, true, false, not, _&&_}
+use mathlib.Core.List.{List, [], _∷_}
+use mathlib.Core.Logic.{_⊎_, ⊎-elim}
+use mathlib.Core.Path.{_≡_, refl, sym, ap, _∙_}
+use Prim.Native.Nat.{ℕ, zero, suc, _+_, _*_}
+use native.Mathlib.Omega.{arith}
+use lib.Dec.{ltb}
+use lib.ListN.{length, take, getD}
+use Rattle.sharing.specs.Bounds.{mostRows}
+use Rattle.course.specs.declared.Place.{Place}
+use Rattle.course.specs.declared.Order.{Order}
+use Rattle.course.specs.StepList.{fullMask, fullNonzero}
+use Rattle.verdict.specs.Told.{Told, passed, refused, Line, refuse, _or_}
+use Rattle.verdict.specs.Refusals.{differs, outside, anyPlace, tooLarge, zeroDraw, no1, no2, no3, no4, no5, no6, no7, no8, no7step, no8step, no9, numbers, buffers}
+use Rattle.solver.specs.Refusals.{wholeTable, placed, ended, entries, dealDraws, maskAt, nonzeroAt, revealedAt, zeroPivot, no10, no11, no12, sizes, dealOrder, gatherOrder, tapes, solveOrder, standing, wantedOrder, placing, lending, stepOrder}
+use Rattle.plain.specs.Calls.{plainOrder}
+use Rattle.trace.specs.Trace.{oneOf}
+
+no-refusal : {l : Line} → passed ≡ refused l → ⊥
+no-refusal e = let z : _≡_ {A = ℕ} 0 1 = cc in omega arith
+
+-- ---- each check gives its own number
+
+record Numbered (k : ℕ) (v : Told) : Type 0 where
+  number : (l : Line) → v ≡ refused l → l .number ≡ k
+
+numbered : (k : ℕ) (test : Bool) (d : List ℕ) → Numbered k (refuse k test d)
+numbered k true d = record { number = λ l e. cc }
+numbered k false d = record { number = λ l e. absurd (no-refusal e) }
+
+one : (f : ℕ) → Numbered 1 (no1 f)
+unfolding no1
+one f = numbered 1 (differs f 16 && differs f 256) _
+
+two : (n : ℕ) → Numbered 2 (no2 n)
+unfolding no2
+two n = numbered 2 (outside 2 4 n) _
+
+three : (m : ℕ) → Numbered 3 (no3 m)
+unfolding no3
+three m = numbered 3 (outside 1 mostRows m) _
+
+four : (wanted long : ℕ) → Numbered 4 (no4 wanted long)
+unfolding no4
+four wanted long = numbered 4 (differs long wanted) _
+
+five : (wanted long : ℕ) → Numbered 5 (no5 wanted long)
+unfolding no5
+five wanted long = numbered 5 (differs long wanted) _
+
+six : (f : ℕ) (input : List ℕ) → Numbered 6 (no6 f input)
+unfolding no6
+six f input = numbered 6 (anyPlace (tooLarge f) input) _
+
+seven : (wanted long : ℕ) → Numbered 7 (no7 wanted long)
+unfolding no7
+seven wanted long = numbered 7 (ltb long wanted) _
+
+eight : (wanted long : ℕ) → Numbered 8 (no8 wanted long)
+unfolding no8
+eight wanted long = numbered 8 (ltb long wanted) _
+
+seven-step : (wanted long : ℕ) → Numbered 7 (no7step wanted long)
+unfolding no7step
+seven-step wanted long = numbered 7 (differs long wanted) _
+
+eight-step : (wanted long : ℕ) → Numbered 8 (no8step wanted long)
+unfolding no8step
+eight-step wanted long = numbered 8 (differs long wanted) _
+
+nine : (f : ℕ) (draws : List ℕ) → Numbered 9 (no9 f draws)
+unfolding no9
+nine f draws = numbered 9 (anyPlace (zeroDraw f) draws) _
+
+ten : (m : ℕ) (p : Place) → Numbered 10 (no10 m p)
+unfolding no10
+ten m p = numbered 10 (not (placed m p)) _
+
+eleven : (p : Place) → Numbered 11 (no11 p)
+unfolding no11
+eleven p = numbered 11 (ended p) _
+
+twelve : (o : Order) (p : Place) (t : List ℕ) → Numbered 12 (no12 o p t)
+unfolding no12
+twelve o p t = numbered 12 (zeroPivot o (revealedAt p) t) _
+
+-- ---- an order gives the numbers of its checks
+
+-- what holds of every refusal that an order gives
+pub record Gives (P : Line → Type 0) (v : Told) : Type 0 where
+  pub only : (l : Line) → v ≡ refused l → P l
+
+module _ {P : Line → Type 0} where
+  by-first : (a : Told) {b : Told} → Gives P a → Gives P b → Gives P (a or b)
+  unfolding _or_
+  by-first passed g h = h
+  by-first (refused l) g h = g
+
+  infixl 20 _then_
+  _then_ : {a b : Told} → Gives P a → Gives P b → Gives P (a or b)
+  _then_ {a} g h = by-first a g h
+
+-- its number is one of these
+unfoldable pub Among : List ℕ → Line → Type 0
+Among ns l = oneOf (l .number) ns ≡ true
+
+in-list : (ns : List ℕ) {k : ℕ} {v : Told} → oneOf k ns ≡ true → Numbered k v → Gives (Among ns) v
+unfolding Among
+in-list ns i n = record { only = λ l e. rw (n .number l e) i }
+
+module _ (ns : List ℕ) where
+  sizes-in : (o : Order) → oneOf 1 ns ≡ true → oneOf 2 ns ≡ true → oneOf 3 ns ≡ true → Gives (Among ns) (sizes o)
+  unfolding numbers
+  sizes-in o a b c = in-list ns a (one (o .field)) then in-list ns b (two (o .shares)) then in-list ns c (three (o .size))
+
+  buffers-in : (f wanted : ℕ) (input : List ℕ) (target long : ℕ) → oneOf 4 ns ≡ true → oneOf 5 ns ≡ true → oneOf 6 ns ≡ true
+      → Gives (Among ns) (buffers f wanted input target long)
+  unfolding buffers
+  buffers-in f wanted input target long a b c =
+      in-list ns a (four wanted (length input)) then in-list ns b (five target long) then in-list ns c (six f input)
+
+-- Start, and the counts of an order
+pub sizes-give : (o : Order) → Gives (Among (1 ∷ 2 ∷ 3 ∷ [])) (sizes o)
+unfolding oneOf
+sizes-give o = sizes-in _ o refl refl refl
+
+pub deal-gives : (o : Order) (values : List ℕ) (target mask : ℕ)
+    → Gives (Among (1 ∷ 2 ∷ 3 ∷ 4 ∷ 5 ∷ 6 ∷ 7 ∷ [])) (dealOrder o values target mask)
+unfolding dealOrder oneOf
+deal-gives o values target mask =
+    sizes-in _ o refl refl refl
+    then (buffers-in _ (o .field) (entries (o .size)) values (wholeTable o) target refl refl refl
+    then in-list _ refl (seven (dealDraws o) mask))
+
+pub gather-gives : (o : Order) (t : List ℕ) (target : ℕ) → Gives (Among (1 ∷ 2 ∷ 3 ∷ 4 ∷ 5 ∷ 6 ∷ [])) (gatherOrder o t target)
+unfolding gatherOrder oneOf
+gather-gives o t target =
+    sizes-in _ o refl refl refl then buffers-in _ (o .field) (wholeTable o) t (entries (o .size)) target refl refl refl
+
+pub solve-gives : (o : Order) (t : List ℕ) (solution mask : ℕ) (nonzero : List ℕ)
+    → Gives (Among (1 ∷ 2 ∷ 3 ∷ 4 ∷ 5 ∷ 6 ∷ 7 ∷ 8 ∷ 9 ∷ [])) (solveOrder o t solution mask nonzero)
+unfolding solveOrder tapes oneOf
+solve-gives o t solution mask nonzero =
+    sizes-in _ o refl refl refl
+    then (buffers-in _ (o .field) (wholeTable o) t (o .size) solution refl refl refl
+    then (in-list _ refl (seven (fullMask o) mask) then in-list _ refl (eight (fullNonzero o) (length nonzero)) then in-list _ refl (nine (o .field) (take (fullNonzero o) nonzero))))
+
+pub wanted-gives : (o : Order) (p : Place) → Gives (Among (1 ∷ 2 ∷ 3 ∷ 10 ∷ 11 ∷ [])) (wantedOrder o p)
+unfolding wantedOrder standing oneOf
+wanted-gives o p = sizes-in _ o refl refl refl then (in-list _ refl (ten (o .size) p) then in-list _ refl (eleven p))
+
+pub plain-gives : (f m : ℕ) (values : List ℕ) (long : ℕ) → Gives (Among (1 ∷ 3 ∷ 4 ∷ 5 ∷ 6 ∷ [])) (plainOrder f m values long)
+unfolding plainOrder oneOf
+plain-gives f m values long =
+    in-list _ refl (one f) then in-list _ refl (three m) then buffers-in _ f (m * (m + 1)) values m long refl refl refl
+
+-- ---- Step, by what is lent
+
+-- of each number, from 0 on: its check passes, or P holds of it
+unfoldable pub Each : (ℕ → Type 0) → List Told → Type 0
+Each P [] = Unit
+Each P (v ∷ vs) = ((v ≡ passed) ⊎ P 0) × Each (λ k. P (suc k)) vs
+
+infixr 10 _also_
+pub _also_ : {A B : Type 0} → A → B → A × B
+a also b = (a, b)
+
+each-at : (P : ℕ → Type 0) (vs : List Told) → Each P vs → (k : ℕ) (l : Line) → getD vs k passed ≡ refused l → P k
+unfolding Each
+each-at P [] e k l g = absurd (no-refusal g)
+each-at P (v ∷ vs) e zero l g = ⊎-elim (λ (h : v ≡ passed). absurd (no-refusal (sym h ∙ g))) (λ (p : P 0). p) (e .0)
+each-at P (v ∷ vs) e (suc k) l g = each-at (λ (j : ℕ). P (suc j)) vs (e .1) k l g
+
+module _ (o : Order) (p : Place) (t : List ℕ) (solution mask : ℕ) (nonzero : List ℕ) where
+  -- its checks, each at its number
+  abbrev pub checks : List Told
+  checks =
+      passed
+      ∷ no1 (o .field)
+      ∷ no2 (o .shares)
+      ∷ no3 (o .size)
+      ∷ no4 (wholeTable o) (length t)
+      ∷ no5 (o .size) solution
+      ∷ no6 (o .field) t
+      ∷ no7step (maskAt o p) mask
+      ∷ no8step (nonzeroAt o p) (length nonzero)
+      ∷ no9 (o .field) nonzero
+      ∷ no10 (o .size) p
+      ∷ no11 p
+      ∷ no12 o p t
+      ∷ []
+
+  -- what it is refused by is what the check of that number says
+  abbrev Own : Line → Type 0
+  Own l = getD checks (l .number) passed ≡ refused l
+
+  own : {k : ℕ} {v : Told} → getD checks k passed ≡ v → Numbered k v → Gives Own v
+  own s n = record { only = λ l e. ap (λ (i : ℕ). getD checks i passed) (n .number l e) ∙ s ∙ e }
+
+  by-number : Gives Own (stepOrder o p t solution mask nonzero)
+  unfolding stepOrder numbers placing standing lending
+  by-number =
+      own refl (one (o .field)) then own refl (two (o .shares)) then own refl (three (o .size))
+      then (own refl (four (wholeTable o) (length t)) then own refl (five (o .size) solution) then (own refl (ten (o .size) p) then own refl (eleven p))
+      then (own refl (six (o .field) t)
+      then own refl (seven-step (maskAt o p) mask)
+      then own refl (eight-step (nonzeroAt o p) (length nonzero))
+      then own refl (nine (o .field) nonzero)
+      then own refl (twelve o p t)))
+
+  -- a number whose check passes is not given, wherever it stands in the order
+  pub not-given : (k : ℕ) → getD checks k passed ≡ passed → (l : Line) → stepOrder o p t solution mask nonzero ≡ refused l → l .number ≡ k → ⊥
+  not-given k e l g same = no-refusal (sym e ∙ ap (λ (n : ℕ). getD checks n passed) (sym same) ∙ by-number .only l g)
+
+  -- and what holds of each number whose check may refuse holds of the one that is given
+  pub given : (P : ℕ → Type 0) → Each P checks → (l : Line) → stepOrder o p t solution mask nonzero ≡ refused l → P (l .number)
+  given P each l g = each-at P checks each (l .number) l (by-number .only l g)
