@@ -71,6 +71,9 @@
  * answer; a word not named for the code becomes 0.
  *
  * HZ_REFUSED: answer[0] is the number of the refusal and answer[1] its detail.
+ * Refusals 6 and 12 tell a cell: its row in answer[1], its column in answer[2] and
+ * the share in answer[3], all from 1. Values have no shares, and a pivot is all of
+ * its shares: there answer[3] is 0.
  * Nothing lent is changed, except answer itself.
  *
  *     1  field neither 16 nor 256               the number
@@ -79,16 +82,18 @@
  *     4  input table or value list              length wanted
  *        of wrong length
  *     5  solution or target of wrong length     length wanted
- *     6  field 16: input table or value list    first such place, from 0
- *        has a byte of 16 or more
+ *     6  field 16: input table or value list    row, column, share of the first
+ *        has a byte of 16 or more               such byte (values: share 0)
  *     7  mask tape too short                    length wanted
- *        (hz_step: not the exact length)
- *     8  nonzero tape, likewise                 length wanted
+ *     8  nonzero tape too short                 length wanted
  *     9  a nonzero draw that is needed is 0     first such place, from 0
  *    10  record: no such place for this size    0
  *    11  record: already stopped or done        0
- *    12  hz_step at Scale: the pivot is 0       j
+ *    12  hz_step at Scale: the pivot is 0       j, j, 0: row, column, share
+ *    14  hz_step: mask tape too long            length wanted
+ *    15  hz_step: nonzero tape too long         length wanted
  *
+ * 13 is none of a call's: desk, which prints the counts of an order, gives it.
  * Where several apply, the first in the call's own order is given.
  *
  * HZ_BAD_WORDS: record has not exactly HZ_RECORD_WORDS words, or answer not
@@ -105,13 +110,13 @@
 extern "C" {
 #endif
 
-#define HZ_VERSION "0.10" /* ./install takes it from here for pkg-config */
+#define HZ_VERSION "0.11" /* ./install takes it from here for pkg-config */
 
 #define HZ_RECORD_WORDS 6
 #define HZ_ANSWER_WORDS 4
 
 /* What a call returns. */
-#define HZ_REFUSED    0 /* answer: number, detail */
+#define HZ_REFUSED    0 /* answer: number, detail; of 6 and 12: number, row, column, share */
 #define HZ_MOVED      1 /* step: done, and nothing was opened */
 #define HZ_OPENED     2 /* step: answer: j, x_j */
 #define HZ_STOPPED    3 /* step, plain: answer: j.   solve: answer: j, steps, mask draws, nonzero draws */
@@ -180,8 +185,8 @@ uint64_t hz_wanted(const uint64_t *record, size_t record_len,
  *     A is the first that is a combination of the columns before it (or zero, for
  *     j = 1). Of a record or a table that a host made up it says nothing more.
  * Refusals, in order: 1, 2, 3 (the record's numbers), 4 (table m(m+1)n), 5
- *     (solution m, whatever the step), 10, 11, 6 (the whole table), 7, 8, 9 (place
- *     within the bytes lent), 12.
+ *     (solution m, whatever the step), 10, 11, 6 (the whole table), 7, 14, 8, 15, 9
+ *     (place within the bytes lent), 12.
  *     10 is any place that the list above has not: another step number, a j or k
  *     outside its range, or not 0 where the step carries none; also stopped at a
  *     column outside 1..m. 10 and 12 cannot come up while a record that hz_start
@@ -274,11 +279,11 @@ uint64_t hz_counts(uint64_t field, uint64_t shares, uint64_t size,
  *     fill_random(mask, 36);              // hz_counts(16, 2, 2, ..): 8 36 2
  *     fill_nonzero(nonzero, 2);
  *     if (hz_deal(16, 2, 2, values, 6, table, 12, deal_tape, 6, answer, 4) != HZ_FILLED)
- *         refused(answer[0], answer[1]);
+ *         refused(answer);                // its number, and its detail
  *     switch (hz_solve(16, 2, 2, table, 12, x, 2, mask, 36, nonzero, 2, answer, 4)) {
  *     case HZ_SOLVED:  use(x[0], x[1]); break;                 // 14 and 14
  *     case HZ_STOPPED: no_single_solution(answer[0]); break;   // the column
- *     default:         refused(answer[0], answer[1]);
+ *     default:         refused(answer);
  *     }
  *
  * host_example/solve.c is a program of this kind, and drives single steps too. */

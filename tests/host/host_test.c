@@ -276,6 +276,25 @@ static uint64_t call(int kind)
     return code;
 }
 
+/* The refusal that this file itself knows the next call must give: its number and
+ * all its details, or 0 where the call must be accepted. */
+static uint64_t refusal[HZ_ANSWER_WORDS];
+
+static void expect(uint64_t number, uint64_t first, uint64_t second, uint64_t third)
+{
+    uint64_t told[] = {number, first, second, third};
+    memcpy(refusal, told, sizeof refusal);
+}
+
+static void call_expecting(int kind)
+{
+    uint64_t code = call(kind);
+    bool accepted = code != HZ_REFUSED && code != HZ_BAD_WORDS;
+    demand(accepted == (refusal[0] == 0), "refused for nothing, or accepted with a fault");
+    demand(accepted || memcmp(answer.lent, refusal, sizeof refusal) == 0,
+           "not refused by the first fault and its details");
+}
+
 /* ---- Systems ---- */
 
 static uint8_t element(void)
@@ -499,6 +518,16 @@ static void damage(buffer *b)
     b->lent[at] = one_in(2) ? 16 : (uint8_t)any();
 }
 
+/* A byte that is no element of F16 in this place, and perhaps another one later,
+ * which a refusal by 6 does not tell. */
+static void plant_large(buffer *b, size_t at)
+{
+    size_t later = at + below(b->len - at);
+    if (one_in(2))
+        b->lent[later] = (uint8_t)(16 + below(240));
+    b->lent[at] = one_in(2) ? 16 : (uint8_t)(16 + below(240));
+}
+
 /* Damages some of what will be lent. */
 static void spoil(void)
 {
@@ -650,24 +679,30 @@ static void refused_between(void)
     size_t table_len = table.len, mask_len = mask.len, nonzero_len = nonzero.len;
     size_t at = below(table.len);
     uint8_t kept_byte = table.lent[at], kept_draws[3];
+    uint64_t number = 0;
     memcpy(kept_draws, nonzero.lent, nonzero.len);
     switch (below(8)) {
     case 0:
         stretch(&mask, mask_len + 1);
+        number = 14;
         break;
     case 1:
         mask.len--;
+        number = 7;
         break;
     case 2:
         stretch(&nonzero, nonzero_len + 1);
+        number = 15;
         break;
     case 3:
         table.len--;
+        number = 4;
         break;
     case 4:
         stretch(&solution, size + 1);
+        number = 5;
         break;
-    case 5:
+    case 5: /* 10 or 11, as it comes */
         if (one_in(2))
             words(&record)[HZ_STEP] = HZ_AT_STOPPED + below(4);
         else
@@ -677,13 +712,16 @@ static void refused_between(void)
         if (field == 256)
             return;
         table.lent[at] |= (uint8_t)(16 + 16 * below(15));
+        number = 6;
         break;
     default:
         if (nonzero.len == 0)
             return;
         plant_zero_draw();
+        number = 9;
     }
     demand(call(STEP) == HZ_REFUSED, "not refused");
+    demand(number == 0 || words(&answer)[0] == number, "refused by another number");
     memcpy(record.lent, kept, sizeof kept);
     table.len = table_len;
     mask.len = mask_len;
@@ -810,9 +848,13 @@ static void case_made_up(void)
         bool refused = call(STEP) == HZ_REFUSED;
         uint64_t number = refused ? words(&answer)[0] : 0;
         if (told)
-            demand(number != 7 && number != 8, "refused with just the draws that hz_wanted told");
+            demand(number != 7 && number != 14 && number != 8 && number != 15,
+                   "refused with just the draws that hz_wanted told");
         else
             demand(number == first, "hz_wanted was refused by another number");
+        uint64_t column = words(&record)[HZ_J], pivot_told[] = {12, column, column, 0};
+        demand(number != 12 || memcmp(answer.lent, pivot_told, sizeof pivot_told) == 0,
+               "another pivot than the record's");
         if (refused)
             break;
     }
@@ -880,8 +922,8 @@ static void call_with(uint64_t given, int kind)
     uint64_t kept = shares;
     shares = given;
     words(&record)[HZ_SHARES] = given;
-    demand(call(kind) == HZ_REFUSED && words(&answer)[0] == 2 && words(&answer)[1] == given,
-           "the number of shares is not refused");
+    expect(2, given, 0, 0);
+    call_expecting(kind);
     shares = kept;
 }
 
@@ -938,20 +980,29 @@ static void case_of_places(uint64_t i)
  * The bytes of a buffer are looked at only once its length is right. So a buffer
  * of wrong length may have no byte that can be read, and is refused all the same. */
 
-/* The number by which each call refuses a wrong length of each buffer. Some tapes
- * may be longer than is needed. */
+/* The numbers by which each call refuses a buffer that is shorter or longer than it
+ * wants. R-2 has two for the tapes of a step; other tapes may be longer, told by 0. */
 static const struct {
     int kind;
     buffer *lent;
-    uint64_t number;
-    bool may_be_longer;
+    uint64_t shorter, longer;
 } lengths[] = {
-    {STEP, &table, 4, false},   {STEP, &solution, 5, false},  {STEP, &mask, 7, false}, {STEP, &nonzero, 8, false},
-    {SOLVE, &table, 4, false},  {SOLVE, &solution, 5, false}, {SOLVE, &mask, 7, true}, {SOLVE, &nonzero, 8, true},
-    {DEAL, &values, 4, false},  {DEAL, &table, 5, false},     {DEAL, &mask, 7, true},
-    {GATHER, &table, 4, false}, {GATHER, &values, 5, false},  {PLAIN, &values, 4, false}, {PLAIN, &solution, 5, false},
+    {STEP, &table, 4, 4},   {STEP, &solution, 5, 5},  {STEP, &mask, 7, 14},  {STEP, &nonzero, 8, 15},
+    {SOLVE, &table, 4, 4},  {SOLVE, &solution, 5, 5}, {SOLVE, &mask, 7, 0},  {SOLVE, &nonzero, 8, 0},
+    {DEAL, &values, 4, 4},  {DEAL, &table, 5, 5},     {DEAL, &mask, 7, 0},
+    {GATHER, &table, 4, 4}, {GATHER, &values, 5, 5},  {PLAIN, &values, 4, 4}, {PLAIN, &solution, 5, 5},
 };
 #define LENGTHS (sizeof lengths / sizeof lengths[0])
+
+/* Right tapes for a call, and for hz_step at the record's place. */
+static void make_tapes(int kind)
+{
+    uint64_t step = words(&record)[HZ_STEP], j = words(&record)[HZ_J];
+    make_mask(kind == STEP ? model_mask_draws(field, shares, size, step, j)
+              : kind == DEAL ? size * (size + 1) * (shares - 1)
+                             : full_mask());
+    make_nonzero(kind == STEP ? model_nonzero_draws(shares, step) : full_nonzero());
+}
 
 /* Right inputs for a call. hz_step's step works on the last rows. */
 static void make_right(int kind, uint64_t step)
@@ -962,12 +1013,8 @@ static void make_right(int kind, uint64_t step)
     fill(solution.lent, size);
     fresh_words();
     bool pair = step == HZ_MIX || step == HZ_CLEAR;
-    uint64_t j = pair ? size - 1 : size;
-    set_record(step, j, pair ? size : 0);
-    make_mask(kind == STEP ? model_mask_draws(field, shares, size, step, j)
-              : kind == DEAL ? values.len * (shares - 1)
-                             : full_mask());
-    make_nonzero(kind == STEP ? model_nonzero_draws(shares, step) : full_nonzero());
+    set_record(step, pair ? size - 1 : size, pair ? size : 0);
+    make_tapes(kind);
 }
 
 /* The call is told of more elements than are there. */
@@ -991,16 +1038,12 @@ static void one_wrong_length(size_t which, uint64_t step)
         if (wrong[i] == right)
             continue;
         size_t there[] = {wrong[i] < right ? wrong[i] : right, 0};
-        bool needed = lengths[which].may_be_longer && wrong[i] > right; /* and then its first bytes are read */
+        uint64_t number = wrong[i] < right ? lengths[which].shorter : lengths[which].longer;
+        bool needed = number == 0; /* a longer tape is accepted, and then its first bytes are read */
+        expect(number, needed ? 0 : right, 0, 0);
         for (int half = 0; half < (needed ? 1 : 2); half++) {
             claim(b, wrong[i], there[half]);
-            uint64_t code = call(kind);
-            const uint64_t *told = words(&answer);
-            if (needed)
-                demand(code != HZ_REFUSED, "refused, though the tape is long enough");
-            else
-                demand(code == HZ_REFUSED && told[0] == lengths[which].number && told[1] == right,
-                       "not refused for the length");
+            call_expecting(kind);
             claim(b, right, right);
         }
         if (needed)
@@ -1008,15 +1051,20 @@ static void one_wrong_length(size_t which, uint64_t step)
     }
 }
 
-/* This length and all those after it in the call's order are wrong, and nothing
- * is there of any of them. */
+/* This length and all those after it in the call's order are wrong, each too short or
+ * too long, and nothing is there of any of them. */
 static void all_wrong_from(size_t which, uint64_t step)
 {
     int kind = lengths[which].kind;
     make_right(kind, step);
-    for (size_t i = which; i < LENGTHS && lengths[i].kind == kind; i++)
-        claim(lengths[i].lent, lengths[i].may_be_longer ? lengths[i].lent->len - 1 : SIZE_MAX - below(9), 0);
-    demand(call(kind) == HZ_REFUSED && words(&answer)[0] == lengths[which].number, "not refused for the first wrong length");
+    for (size_t i = which; i < LENGTHS && lengths[i].kind == kind; i++) {
+        size_t right = lengths[i].lent->len;
+        bool longer = right == 0 || (lengths[i].longer != 0 && one_in(2));
+        if (i == which)
+            expect(longer ? lengths[i].longer : lengths[i].shorter, right, 0, 0);
+        claim(lengths[i].lent, longer ? SIZE_MAX - below(9) : right - 1, 0);
+    }
+    call_expecting(kind);
     for (size_t i = which; i < LENGTHS && lengths[i].kind == kind; i++)
         lengths[i].lent->more = 0;
 }
@@ -1074,6 +1122,289 @@ static void case_of_lengths(uint64_t i)
     nothing_there();
 }
 
+/* ---- Which cell (R-2) ----
+ *
+ * Refusal 6 tells row, column and share of the first byte that is no element of F16.
+ * Here the cell is known from walking 01's layout up to it, or from R-2's examples, and
+ * never from dividing a place. */
+
+/* The calls that read a table or values, and for hz_step the kinds of places. */
+static const struct {
+    int kind;
+    buffer *input;
+    uint64_t step;
+} readers[] = {
+    {SOLVE, &table, 0},       {GATHER, &table, 0},      {STEP, &table, HZ_MIX},  {STEP, &table, HZ_CHECK},
+    {STEP, &table, HZ_SCALE}, {STEP, &table, HZ_CLEAR}, {STEP, &table, HZ_OPEN}, {DEAL, &values, 0},
+    {PLAIN, &values, 0},
+};
+#define READERS (sizeof readers / sizeof readers[0])
+
+/* Nothing else is wrong; or the tapes are too, which are looked at after 6; or the same
+ * bytes are lent in F256, where none is too large. */
+enum { ALONE, LATER_FAULTS, IN_F256, LARGE_ROUNDS };
+
+/* Sets the record to any place of this kind; false where the size has none. */
+static bool any_place(uint64_t step)
+{
+    bool pair = step == HZ_MIX || step == HZ_CLEAR;
+    if (pair && size == 1)
+        return false;
+    uint64_t j = 1 + below(pair ? size - 1 : size), k = pair ? j + 1 + below(size - j) : 0;
+    set_record(step, j, k);
+    return true;
+}
+
+/* The shares of T[j,j]. */
+static uint8_t *pivot(uint64_t j)
+{
+    return table.lent + ((j - 1) * (size + 1) + (j - 1)) * shares;
+}
+
+static uint8_t pivot_value(uint64_t j)
+{
+    uint8_t sum = 0;
+    for (uint64_t s = 0; s < shares; s++)
+        sum ^= pivot(j)[s];
+    return sum;
+}
+
+/* The call of one reader on table and values as they are, which must be refused for
+ * this cell in F16. */
+static void read_large(size_t reader, int round, uint64_t r, uint64_t c, uint64_t s)
+{
+    int kind = readers[reader].kind;
+    bool tapes = kind == STEP || kind == SOLVE || kind == DEAL;
+    field = round == IN_F256 ? 256 : 16;
+    fresh_words();
+    if (kind == STEP && !any_place(readers[reader].step))
+        return;
+    if (round == LATER_FAULTS && !tapes)
+        return; /* 6 is their last */
+    if (round == IN_F256 && size == 96 && kind == SOLVE)
+        return; /* it takes long, and the large cases are full of such bytes */
+    if (tapes)
+        make_tapes(kind);
+    if (round == LATER_FAULTS) {
+        stretch(&mask, wrong_length(mask.len));
+        stretch(&nonzero, wrong_length(nonzero.len));
+        plant_zero_draw();
+    }
+    uint64_t j = words(&record)[HZ_J];
+    if (field == 16)
+        expect(6, r, c, s);
+    else if (kind == STEP && readers[reader].step == HZ_SCALE && pivot_value(j) == 0)
+        expect(12, j, j, 0);
+    else
+        expect(0, 0, 0, 0);
+    call_expecting(kind);
+}
+
+/* Everything that reads this buffer, where the first byte of 16 or more stands at
+ * this place of it, which is this cell. */
+static void large_byte(buffer *b, size_t at, uint64_t r, uint64_t c, uint64_t s)
+{
+    field = 16;
+    make_values(RANDOM);
+    make_table();
+    solution.len = size;
+    fill(solution.lent, size);
+    plant_large(b, at);
+    memcpy(first_table, table.lent, table.len);
+    memcpy(dealt_values, values.lent, values.len);
+    for (size_t reader = 0; reader < READERS; reader++)
+        for (int round = 0; readers[reader].input == b && round < LARGE_ROUNDS; round++) {
+            read_large(reader, round, r, c, s);
+            memcpy(table.lent, first_table, table.len); /* what was accepted has changed it */
+            memcpy(values.lent, dealt_values, values.len);
+        }
+}
+
+/* Examples of R-2, among them the place that a host team counted by hand. */
+static const struct {
+    uint64_t shares, size; /* shares 0: plain values */
+    size_t at;
+    uint64_t row, column, share;
+} cell_vectors[] = {
+    {2, 1, 0, 1, 1, 1},  {2, 1, 3, 1, 2, 2}, {4, 96, 20143, 52, 89, 4}, {3, 96, 20143, 70, 22, 2},
+    {2, 2, 11, 2, 3, 2}, {0, 2, 5, 2, 3, 0},
+};
+#define ALL_CELL_VECTORS (sizeof cell_vectors / sizeof cell_vectors[0])
+static void case_of_cell_vectors(uint64_t i)
+{
+    bool plain = cell_vectors[i].shares == 0;
+    shares = plain ? 2 + below(3) : cell_vectors[i].shares;
+    size = cell_vectors[i].size;
+    large_byte(plain ? &values : &table, cell_vectors[i].at, cell_vectors[i].row, cell_vectors[i].column,
+               cell_vectors[i].share);
+}
+
+/* Of the largest size not every cell is taken, but the first, the last, the one that
+ * R-2 tells of, and about so many more. */
+#define MORE_CELLS 12
+static bool chosen(size_t at, size_t count)
+{
+    return size < 96 || at == 0 || at == count - 1 || at == 20143 || one_in(count / MORE_CELLS);
+}
+
+static const uint64_t sizes_of_cells[] = {1, 2, 3, 5, 96};
+#define ALL_CELLS (3 * (sizeof sizes_of_cells / sizeof sizes_of_cells[0]))
+static void case_of_cells(uint64_t i)
+{
+    shares = 2 + i % 3;
+    size = sizes_of_cells[i / 3];
+    size_t entries = size * (size + 1), entry = 0, byte = 0;
+    for (uint64_t r = 1; r <= size; r++)
+        for (uint64_t c = 1; c <= size + 1; c++) {
+            if (chosen(entry, entries))
+                large_byte(&values, entry, r, c, 0);
+            entry++;
+            for (uint64_t s = 1; s <= shares; s++) {
+                if (chosen(byte, entries * shares))
+                    large_byte(&table, byte, r, c, s);
+                byte++;
+            }
+        }
+}
+
+/* ---- Which tape (R-2) ----
+ *
+ * A step tells apart a tape that is too short and one that is too long. The faults
+ * are made from the last of the call's order to the first, so that the first has the
+ * last word on what is expected: for a step 7, 14, 8, 15, 9, 12, for the other calls
+ * 7, 8, 9, and a longer tape is none. */
+
+enum { ONE_SHORT, RIGHT_LENGTH, ONE_LONG, MUCH_LONGER, TAPE_LENGTHS };
+enum { NO_ZERO_DRAW, ZERO_DRAW_NEEDED, ZERO_DRAW_BEYOND, ZERO_DRAWS };
+#define TAPE_SETS (TAPE_LENGTHS * TAPE_LENGTHS * ZERO_DRAWS)
+
+/* Makes a right tape shorter or longer. What is too much is there, or is only said to
+ * be. The number is 0 where the call accepts the length. */
+static void change_tape(buffer *tape, int how, uint64_t shorter, uint64_t longer)
+{
+    static const size_t much[] = {2, 16, 256, SPARE, PAGE, (size_t)1 << 32, (size_t)1 << 63};
+    size_t right = tape->len, more = how == ONE_LONG ? 1 : much[below(sizeof much / sizeof much[0])];
+    uint64_t number = how == ONE_SHORT ? shorter : how == RIGHT_LENGTH ? 0 : longer;
+    if (number != 0)
+        expect(number, right, 0, 0);
+    if (how == ONE_SHORT)
+        tape->len--;
+    else if (how != RIGHT_LENGTH && more <= SPARE && one_in(2))
+        stretch(tape, right + more);
+    else if (how != RIGHT_LENGTH)
+        tape->more = more;
+}
+
+/* hz_step or hz_solve with one of the sets of tapes. Where no tape is at fault, what
+ * was expected before is. */
+static void call_with_tapes(int kind, uint64_t set)
+{
+    int mask_length = (int)(set % TAPE_LENGTHS), nonzero_length = (int)(set / TAPE_LENGTHS % TAPE_LENGTHS);
+    int zero = (int)(set / TAPE_LENGTHS / TAPE_LENGTHS);
+    make_tapes(kind);
+    size_t right = nonzero.len;
+    if (right == 0 && nonzero_length == ONE_SHORT)
+        return;
+    if (zero == ZERO_DRAW_NEEDED && right > 0) {
+        size_t at = below(right);
+        nonzero.lent[at] = zero_draw();
+        expect(9, at, 0, 0);
+    }
+    change_tape(&nonzero, nonzero_length, 8, kind == STEP ? 15 : 0);
+    for (size_t at = right; zero != NO_ZERO_DRAW && at < nonzero.len; at++)
+        nonzero.lent[at] = zero_draw();
+    change_tape(&mask, mask_length, 7, kind == STEP ? 14 : 0);
+    call_expecting(kind);
+    mask.more = nonzero.more = 0;
+}
+
+/* Every set of tapes at one place, where the pivot is 0 or is not. */
+static void tapes_of_place(uint64_t step, uint64_t j, uint64_t k)
+{
+    for (uint64_t set = 0; set < 2 * TAPE_SETS; set++) {
+        uint8_t wanted = set < TAPE_SETS ? nonzero_element() : 0;
+        make_values(RANDOM);
+        make_table();
+        pivot(j)[0] ^= pivot_value(j) ^ wanted;
+        set_record(step, j, k);
+        if (step == HZ_SCALE && wanted == 0)
+            expect(12, j, j, 0);
+        else
+            expect(0, 0, 0, 0);
+        call_with_tapes(STEP, set % TAPE_SETS);
+    }
+}
+
+/* Every place of the list, and whole solves and deals, which 14 and 15 are not for. */
+#define TAPE_SIZES 3
+#define ALL_TAPES (2 * 3 * TAPE_SIZES)
+static void case_of_tapes(uint64_t i)
+{
+    field = i % 2 == 0 ? 16 : 256;
+    shares = 2 + i / 2 % 3;
+    size = 1 + i / 6;
+    solution.len = size;
+    fill(solution.lent, size);
+    fresh_words();
+    for (uint64_t j = 1; j <= size; j++) {
+        tapes_of_place(HZ_CHECK, j, 0);
+        tapes_of_place(HZ_SCALE, j, 0);
+        tapes_of_place(HZ_OPEN, j, 0);
+        for (uint64_t k = j + 1; k <= size; k++) {
+            tapes_of_place(HZ_MIX, j, k);
+            tapes_of_place(HZ_CLEAR, j, k);
+        }
+    }
+    for (uint64_t set = 0; set < TAPE_SETS; set++) {
+        any_values();
+        make_table();
+        expect(0, 0, 0, 0);
+        call_with_tapes(SOLVE, set);
+    }
+    for (int how = 0; how < TAPE_LENGTHS; how++) {
+        any_values();
+        make_tapes(DEAL);
+        expect(0, 0, 0, 0);
+        change_tape(&mask, how, 7, 0);
+        call_expecting(DEAL);
+        mask.more = 0;
+    }
+}
+
+/* Examples of R-2, and 01's edges, in F16 and two shares. */
+static const struct {
+    int kind;
+    uint64_t size, step, k; /* the step at j = 1 */
+    size_t mask, nonzero;
+    uint64_t number, detail; /* 0: accepted */
+} tape_vectors[] = {
+    {STEP, 2, HZ_MIX, 2, 6, 0, 7, 7},    {STEP, 2, HZ_MIX, 2, 7, 0, 0, 0},    {STEP, 2, HZ_MIX, 2, 8, 0, 14, 7},
+    {STEP, 2, HZ_MIX, 2, 6, 1, 7, 7},    {STEP, 2, HZ_MIX, 2, 7, 1, 15, 0},   {STEP, 2, HZ_MIX, 2, 8, 1, 14, 7},
+    {STEP, 2, HZ_SCALE, 0, 8, 0, 8, 1},  {STEP, 2, HZ_SCALE, 0, 8, 1, 0, 0},  {STEP, 2, HZ_SCALE, 0, 8, 2, 15, 1},
+    {STEP, 2, HZ_SCALE, 0, 9, 0, 14, 8}, {STEP, 2, HZ_SCALE, 0, 9, 2, 14, 8}, {STEP, 2, HZ_SCALE, 0, 7, 2, 7, 8},
+    {SOLVE, 1, 0, 0, 11, 1, 7, 12},      {SOLVE, 1, 0, 0, 12, 1, 0, 0},       {SOLVE, 1, 0, 0, 13, 1, 0, 0},
+    {SOLVE, 1, 0, 0, 13, 0, 8, 1},       {SOLVE, 1, 0, 0, 12, 2, 0, 0},       {SOLVE, 1, 0, 0, 13, 2, 0, 0},
+    {DEAL, 2, 0, 0, 5, 0, 7, 6},         {DEAL, 2, 0, 0, 6, 0, 0, 0},         {DEAL, 2, 0, 0, 7, 0, 0, 0},
+};
+#define ALL_TAPE_VECTORS (sizeof tape_vectors / sizeof tape_vectors[0])
+static void case_of_tape_vectors(uint64_t i)
+{
+    field = 16;
+    shares = 2;
+    size = tape_vectors[i].size;
+    make_values(RANDOM);
+    *value(0, 0) = nonzero_element(); /* for Scale */
+    make_table();
+    solution.len = size;
+    fill(solution.lent, size);
+    fresh_words();
+    set_record(tape_vectors[i].step, 1, tape_vectors[i].k);
+    make_mask(tape_vectors[i].mask);
+    make_nonzero(tape_vectors[i].nonzero);
+    expect(tape_vectors[i].number, tape_vectors[i].detail, 0, 0);
+    call_expecting(tape_vectors[i].kind);
+}
+
 /* ---- The plain call ---- */
 
 /* Systems with their answer: those of 01, and those that came with R-1. */
@@ -1115,7 +1446,7 @@ static void case_of_vectors(uint64_t i)
 }
 
 /* Every set of the plain call's five faults. The first in its order is told, with
- * its detail; both are worked out here and not by the model. */
+ * its details; both are worked out here and not by the model. */
 enum { BAD_FIELD = 1, BAD_SIZE = 2, BAD_VALUES = 4, BAD_SOLUTION = 8, LARGE_BYTE = 16, FAULT_SETS = 32 };
 
 static const uint64_t sizes_of_faults[] = {1, 2, 3, 8, 96};
@@ -1152,41 +1483,37 @@ static void make_wrong(buffer *b)
 /* The last fault of the order is made first, so that the first has the last word. */
 static void case_of_faults(uint64_t i)
 {
-    uint64_t faults = i % FAULT_SETS, number = 0, detail = 0;
+    uint64_t faults = i % FAULT_SETS;
     field = i / FAULT_SETS % 2 == 0 ? 16 : 256;
     size = sizes_of_faults[i / (FAULT_SETS * 2) / FAULT_ROUNDS];
     make_values(RANDOM);
     solution.len = size;
     fill(solution.lent, size);
     fresh_words();
+    expect(0, 0, 0, 0);
     if (faults & LARGE_BYTE) {
-        size_t first = below(values.len), other = first + below(values.len - first);
-        values.lent[other] = (uint8_t)(16 + below(240));
-        values.lent[first] = one_in(2) ? 16 : (uint8_t)(16 + below(240));
-        number = field == 16 ? 6 : 0;
-        detail = first;
+        uint64_t r = below(size), c = below(size + 1);
+        plant_large(&values, (size_t)(value(r, c) - values.lent));
+        if (field == 16)
+            expect(6, r + 1, c + 1, 0);
     }
     if (faults & BAD_SOLUTION) {
-        number = 5;
-        detail = solution.len;
+        expect(5, solution.len, 0, 0);
         make_wrong(&solution);
     }
     if (faults & BAD_VALUES) {
-        number = 4;
-        detail = values.len;
+        expect(4, values.len, 0, 0);
         make_wrong(&values);
     }
     if (faults & BAD_SIZE) {
-        number = 3;
-        detail = size = refused_number(is_size);
+        size = refused_number(is_size);
+        expect(3, size, 0, 0);
     }
     if (faults & BAD_FIELD) {
-        number = 1;
-        detail = field = refused_number(is_field);
+        field = refused_number(is_field);
+        expect(1, field, 0, 0);
     }
-    uint64_t code = call(PLAIN), told[HZ_ANSWER_WORDS] = {number, detail};
-    demand((code == HZ_REFUSED) == (number != 0), "refused for nothing, or accepted with a fault");
-    demand(number == 0 || memcmp(answer.lent, told, sizeof told) == 0, "not refused by the first fault and its detail");
+    call_expecting(PLAIN);
 }
 
 /* ---- Three ways to one answer ----
@@ -1384,6 +1711,10 @@ static const struct {
 } cases[] = {
     {ALL_SMALL, case_of_places},
     {ALL_LENGTHS, case_of_lengths},
+    {ALL_CELL_VECTORS, case_of_cell_vectors},
+    {ALL_CELLS, case_of_cells},
+    {ALL_TAPE_VECTORS, case_of_tape_vectors},
+    {ALL_TAPES, case_of_tapes},
     {ALL_SIZES, case_of_sizes},
     {ALL_REFUSED_SHARES, case_of_refused_shares},
     {ALL_VECTORS, case_of_vectors},

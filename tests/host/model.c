@@ -350,6 +350,17 @@ static uint64_t refuse(uint64_t *answer, uint64_t number, uint64_t detail)
     return say(HZ_REFUSED, answer, number, detail, 0, 0);
 }
 
+/* The cell that a refusal speaks of (R-2), all from 1. Share 0 is no single share: a
+ * value has none, and a pivot's value is the sum of all. */
+typedef struct {
+    uint64_t row, column, share; /* row 0: no cell at all */
+} cell;
+
+static uint64_t refuse_cell(uint64_t *answer, uint64_t number, cell at)
+{
+    return say(HZ_REFUSED, answer, number, at.row, at.column, at.share);
+}
+
 /* 1, 2, 3, or 0 for none; *detail is the number complained of. */
 static uint64_t bad_number(uint64_t field, uint64_t n, uint64_t m, uint64_t *detail)
 {
@@ -368,13 +379,33 @@ static uint64_t bad_number(uint64_t field, uint64_t n, uint64_t m, uint64_t *det
     return 0;
 }
 
-/* The first byte of 16 or more where the field is F16, else len. */
-static size_t first_large(uint64_t field, const uint8_t *bytes, size_t len)
+/* The cell of the first byte of 16 or more where the field is F16. The walk goes as
+ * the bytes lie (01): row after row, in a row column after column, and in an entry
+ * share after share, of which there are `depth`; so it knows its cell, and no place
+ * has to be divided. */
+static cell first_large(uint64_t field, uint64_t m, uint64_t depth, const uint8_t *bytes)
 {
-    size_t at = 0;
-    while (at < len && (field == 256 || bytes[at] < 16))
-        at++;
+    for (uint64_t row = 1; row <= m; row++)
+        for (uint64_t column = 1; column <= m + 1; column++)
+            for (uint64_t share = 1; share <= depth; share++)
+                if (*bytes++ >= 16 && field == 16)
+                    return (cell){row, column, share};
+    return (cell){0, 0, 0};
+}
+
+/* The same in plain values, a byte to an entry. */
+static cell first_large_value(uint64_t field, uint64_t m, const uint8_t *values)
+{
+    cell at = first_large(field, m, 1, values);
+    at.share = 0;
     return at;
+}
+
+/* The number by which a step refuses this length of a tape, or 0. R-2 has two for
+ * each tape, where 01 had one. */
+static uint64_t bad_tape(size_t len, uint64_t wanted, uint64_t too_short, uint64_t too_long)
+{
+    return len < wanted ? too_short : len > wanted ? too_long : 0;
 }
 
 /* The first of the first len bytes that is a zero draw, else len. */
@@ -523,13 +554,16 @@ uint64_t model_step(uint64_t *record, size_t record_len,
         return refuse(answer, 10, 0);
     if (step == HZ_AT_STOPPED || step == HZ_AT_DONE)
         return refuse(answer, 11, 0);
-    size_t large = first_large(field, table, table_len);
-    if (large < table_len)
-        return refuse(answer, 6, large);
-    if (mask_len != model_mask_draws(field, n, m, step, j))
-        return refuse(answer, 7, model_mask_draws(field, n, m, step, j));
-    if (nonzero_len != model_nonzero_draws(n, step))
-        return refuse(answer, 8, model_nonzero_draws(n, step));
+    cell large = first_large(field, m, n, table);
+    if (large.row)
+        return refuse_cell(answer, 6, large);
+    uint64_t mask_wanted = model_mask_draws(field, n, m, step, j), nonzero_wanted = model_nonzero_draws(n, step);
+    bad = bad_tape(mask_len, mask_wanted, 7, 14);
+    if (bad)
+        return refuse(answer, bad, mask_wanted);
+    bad = bad_tape(nonzero_len, nonzero_wanted, 8, 15);
+    if (bad)
+        return refuse(answer, bad, nonzero_wanted);
     size_t zero = first_zero_draw(field, nonzero, nonzero_len);
     if (zero < nonzero_len)
         return refuse(answer, 9, zero);
@@ -547,7 +581,7 @@ uint64_t model_step(uint64_t *record, size_t record_len,
         break;
     case HZ_SCALE:
         if (!scale(&t, j))
-            return refuse(answer, 12, j);
+            return refuse_cell(answer, 12, (cell){j, j, 0});
         break;
     case HZ_CLEAR:
         clear(&t, j, k);
@@ -600,9 +634,9 @@ uint64_t model_solve(uint64_t field, uint64_t n, uint64_t m,
         return refuse(answer, 4, m * (m + 1) * n);
     if (solution_len != m)
         return refuse(answer, 5, m);
-    size_t large = first_large(field, table, table_len);
-    if (large < table_len)
-        return refuse(answer, 6, large);
+    cell large = first_large(field, m, n, table);
+    if (large.row)
+        return refuse_cell(answer, 6, large);
     if (mask_len < model_full_mask_draws(field, n, m))
         return refuse(answer, 7, model_full_mask_draws(field, n, m));
     if (nonzero_len < m * (n - 1))
@@ -634,9 +668,9 @@ uint64_t model_plain(uint64_t field, uint64_t m,
         return refuse(answer, 4, m * (m + 1));
     if (solution_len != m)
         return refuse(answer, 5, m);
-    size_t large = first_large(field, values, values_len);
-    if (large < values_len)
-        return refuse(answer, 6, large);
+    cell large = first_large_value(field, m, values);
+    if (large.row)
+        return refuse_cell(answer, 6, large);
 
     uint64_t column = by_columns(field, m, values, solution);
     if (column == 0)
@@ -661,9 +695,9 @@ uint64_t model_deal(uint64_t field, uint64_t n, uint64_t m,
         return refuse(answer, 4, entries);
     if (table_len != entries * n)
         return refuse(answer, 5, entries * n);
-    size_t large = first_large(field, values, values_len);
-    if (large < values_len)
-        return refuse(answer, 6, large);
+    cell large = first_large_value(field, m, values);
+    if (large.row)
+        return refuse_cell(answer, 6, large);
     if (mask_len < entries * (n - 1))
         return refuse(answer, 7, entries * (n - 1));
 
@@ -691,9 +725,9 @@ uint64_t model_gather(uint64_t field, uint64_t n, uint64_t m,
         return refuse(answer, 4, entries * n);
     if (values_len != entries)
         return refuse(answer, 5, entries);
-    size_t large = first_large(field, table, table_len);
-    if (large < table_len)
-        return refuse(answer, 6, large);
+    cell large = first_large(field, m, n, table);
+    if (large.row)
+        return refuse_cell(answer, 6, large);
 
     for (uint64_t e = 0; e < entries; e++) {
         values[e] = 0;

@@ -1,7 +1,7 @@
-/* An independent C implementation of the paper 01, and of R-1 in 02, for the calls
- * of hostozaro.h: each model_X answers as hz_X must. Written from the papers alone
- * (model_wanted, which they have not, from hostozaro.h), for clarity, and used only
- * to compare. */
+/* An independent C implementation of the paper 01, and of R-1 and R-2 in 02, for the
+ * calls of hostozaro.h: each model_X answers as hz_X must. Written from the papers
+ * alone (model_wanted, which they have not, and the words of an answer from
+ * hostozaro.h), for clarity, and used only to compare. */
 #ifndef MODEL_H
 #define MODEL_H
 

@@ -10,6 +10,7 @@ use Rattle.field.specs.Field.{fieldOf}
 use Rattle.sharing.specs.Lists.{Below}
 use Rattle.sharing.specs.Bounds.{mostRows}
 use Rattle.table.specs.Layout.{tableBytes}
+use Rattle.verdict.specs.declared.Rows.the-variants.{Values}
 use Rattle.verdict.specs.Told.{passed, _or_}
 use Rattle.verdict.specs.Refusals.{no1, no3, buffers}
 use Rattle.verdict.proofs.Told.{left, right}
@@ -28,10 +29,10 @@ module _ (f m : ℕ) (values : List ℕ) (long : ℕ) where
   pub admitted : plainOrder f m values long ≡ passed → Admitted
   unfolding plainOrder
   admitted e =
-      let b = buffers f (m * (m + 1)) values m long in
+      let b = buffers f (Values (m + 1)) (m * (m + 1)) values m long in
       let n = left (no1 f or no3 m) b e in
       let three = three-says m (right (no1 f) (no3 m) n) in
-      let lent : Buffers f (m * (m + 1)) values m long = buffered f (m * (m + 1)) values m long (right (no1 f or no3 m) b e) in
+      let lent : Buffers f (m * (m + 1)) values m long = buffered f (m * (m + 1)) values m long (Values (m + 1)) (right (no1 f or no3 m) b e) in
       record {
         field = one-says f (left (no1 f) (no3 m) n);
         some = three .0;
@@ -45,7 +46,7 @@ module _ (f m : ℕ) (values : List ℕ) (long : ℕ) where
   unfolding plainOrder
   admits a =
       one-passes f (a .field) and three-passes m (a .some) (a .most)
-      and buffers-pass f (m * (m + 1)) values m long (a .entries) (a .room) (a .elements)
+      and buffers-pass f (m * (m + 1)) values m long (Values (m + 1)) (a .entries) (a .room) (a .elements)
 
 -- a table of values is one of one byte an entry
 pub one-byte : (m : ℕ) (t : List ℕ) → length t ≡ m * (m + 1) → length t ≡ tableBytes 1 m (m + 1)

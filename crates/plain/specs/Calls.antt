@@ -5,6 +5,7 @@ use Prim.Native.Nat.{ℕ, _+_, _*_}
 use lib.ListN.{length}
 use Rattle.field.specs.Field.{fieldOf}
 use Rattle.algebra.specs.Linear.{Answer, solved, stopped, Means}
+use Rattle.verdict.specs.declared.Rows.the-variants.{Values}
 use Rattle.verdict.specs.Told.{Told, _or_}
 use Rattle.verdict.specs.Refusals.{paper, no1, no3, buffers}
 use Rattle.verdict.specs.Calls.{Says, refuses, gives, Outcome, after, call}
@@ -17,9 +18,11 @@ plainSays S.Solved = gives solved
 plainSays (S.Stopped j) = gives (stopped j)
 plainSays (S.Refused r) = refuses (paper r)
 
--- "Refusals: 1, 3, 4, 5 and 6, in 01's order, with one byte an entry": the values are m(m+1) bytes, and the solution m
+-- "Refusals: 1, 3, 4, 5 and 6, in 01's order, with one byte an entry": the values are m(m+1) bytes, and the solution m. R-2: "Deal's values
+-- and R-1's table have no shares: share 0"
 unfoldable pub plainOrder : ℕ → ℕ → List ℕ → ℕ → Told
-plainOrder field size values length′ = no1 field or no3 size or buffers field (size * (size + 1)) values size length′
+plainOrder field size values length′ =
+    no1 field or no3 size or buffers field (Values (size + 1)) (size * (size + 1)) values size length′
 
 unfoldable pub plainDoes : ℕ → ℕ → List ℕ → List ℕ → Outcome Answer (List ℕ)
 plainDoes field size values x = let s = solves field size values x in after (gives (s .answer)) (s .solution)

@@ -13,6 +13,7 @@ ghost use Rattle.plain.specs.Elimination.{seek, exchange, scale, clear, 
 ghost use Rattle.plain.specs.Calls.{plainSays, plainOrder, plainDoes, plainCall, Tells};
 ghost use Rattle.plain.specs.Code.Worked.{workedAs};
 use verdict::Refusal;
+use verdict::Rows;
 use verdict::Verdict;
 
 const MOST_ENTRIES: usize = (sharing::MOST_ROWS as usize) * sharing::MOST_WIDTH;
@@ -175,7 +176,8 @@ fn check(field: u64, size: u64, values: &[u8], length: usize) -> Verdict
         return v;
     };
     let m = size as usize;
-    verdict::buffers(field, m * (m + 1), values, m, length)
+    let rows = Rows::Values { width: m + 1 };
+    verdict::buffers(field, rows, m * (m + 1), values, m, length)
 }
 
 // The plain solve. The first promise fixes the answer and every lent byte; the second says what the answer means.

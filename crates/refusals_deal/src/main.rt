@@ -184,6 +184,18 @@ fn deals_of_draws() {
     deal_with(words, &[2, 3], &[0xd6]);
 }
 
+// Two equations in two shares over F16, and a tape that is short: 6 goes before 7.
+fn deal_two(words: &[u8], values: &[u8]) {
+    deal(words, order(16, 2, 2), values, &[0xee; 12], &[0xd6]);
+}
+
+fn deals_of_two() {
+    let words = b"two equations, and the last value is 16";
+    deal_two(words, &[0, 1, 5, 1, 0, 0x10]);
+    let words = b"and the first value of row 2 is 255";
+    deal_two(words, &[0, 1, 5, 0xff, 0, 0x10]);
+}
+
 fn deals_accepted() {
     deal_of(b"accepted", order(16, 2, 1));
     let words = b"a mask byte of 0x10, accepted";
@@ -220,6 +232,18 @@ fn gathers_of_lengths() {
     gather(words, o, &[4, 6, 0x10, 9], &show::call::BLANK);
 }
 
+// Two equations in two shares over F16, with places for their values.
+fn gather_two(words: &[u8], table: &[u8]) {
+    gather(words, order(16, 2, 2), table, &[0xee; 6]);
+}
+
+fn gathers_of_two() {
+    let words = b"two equations, and the last byte is 16";
+    gather_two(words, &[4, 4, 4, 5, 10, 15, 3, 2, 10, 10, 15, 0x10]);
+    let words = b"and the second share of row 1, column 3 is 255";
+    gather_two(words, &[4, 4, 4, 5, 10, 0xff, 3, 2, 10, 10, 15, 0x10]);
+}
+
 fn gathers_accepted() {
     let o = order(256, 2, 1);
     gather_of(b"accepted", order(16, 2, 1));
@@ -233,8 +257,10 @@ fn main() {
     deals_of_sizes();
     deals_of_lengths();
     deals_of_draws();
+    deals_of_two();
     deals_accepted();
     gathers_of_sizes();
     gathers_of_lengths();
+    gathers_of_two();
     gathers_accepted();
 }

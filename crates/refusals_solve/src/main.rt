@@ -137,6 +137,40 @@ fn solves_of_tapes() {
     solve_one(words, &TABLE, &a[..12], &[]);
 }
 
+// The same with short tapes, so that 6 goes before 7 and 8.
+fn solve_large(words: &[u8], table: &[u8]) {
+    solve_one(words, table, &[], &[]);
+}
+
+fn solves_of_entries() {
+    let words = b"two bytes of 16 and more, the first of them in front";
+    solve_large(words, &[0x10, 6, 0xff, 9]);
+    solve_large(b"a byte of 16 in the second share", &[4, 0x10, 10, 9]);
+    solve_large(b"a byte of 16 at the end", &[4, 6, 10, 0x10]);
+    let mut t = TWO_STOPS;
+    t[11] = 0x1f;
+    let words = b"two equations, and the last byte is 31";
+    solve(words, order(16, 2, 2), &t, &BLANK, &[], &[]);
+}
+
+// 96 equations, all 0 but for byte 20143, which is 16. Printed without the bytes.
+fn solve_most(shares: u64, table: &mut [u8]) {
+    let mut x = [0xeeu8; 96];
+    show::text(b"solve: 96 equations, and byte 20143 is 16\n  lent: ");
+    show::call::of_order(order(16, shares, 96));
+    say_solving(solver::solve(16, shares, 96, table, &mut x, &[], &[]));
+    show::text(b"\n");
+}
+
+fn solves_of_most() {
+    let mut t = [0u8; 27936];
+    t[20143] = 0x10;
+    solve_most(3, &mut t);
+    let mut u = [0u8; 37248];
+    u[20143] = 0x10;
+    solve_most(4, &mut u);
+}
+
 // One equation in two shares over F16, with a good mask tape.
 fn solve_with(words: &[u8], table: &[u8], nonzero: &[u8]) {
     let a = MASK;
@@ -185,6 +219,8 @@ fn solves_accepted() {
 fn main() {
     solves_of_sizes();
     solves_of_lengths();
+    solves_of_entries();
+    solves_of_most();
     solves_of_tapes();
     solves_of_draws();
     solves_of_good_tapes();

@@ -197,6 +197,32 @@ fn steps_at_end() {
     made_up(b"done, and a large byte", Place::Done);
 }
 
+// Two equations in two shares over F16, at Check(1), with a large byte and no tapes.
+fn table_of_two(words: &[u8], table: &[u8]) {
+    step(
+        words,
+        at(order(16, 2, 2), check(1)),
+        table,
+        &BLANK,
+        &[],
+        &[],
+    );
+}
+
+fn steps_of_entries() {
+    let words = b"a byte of 16, and no mask byte";
+    step_one(words, check(1), &[4, 6, 9, 0x10], &[], &[]);
+    let words = b"every byte 16 or more: the first";
+    step_one(words, check(1), &[0x10, 0x20, 0xff, 0x10], &[], &[]);
+    let mut t = TWO;
+    t[11] = 0xf0;
+    let words = b"two equations, and the last byte is 240";
+    table_of_two(words, &t);
+    t[7] = 0x10;
+    let words = b"and the second share of row 2, column 1 is 16";
+    table_of_two(words, &t);
+}
+
 // Check of one equation.
 fn check_one(words: &[u8], mask: &[u8], nonzero: &[u8]) {
     step_one(words, check(1), &TABLE, mask, nonzero);
@@ -204,11 +230,11 @@ fn check_one(words: &[u8], mask: &[u8], nonzero: &[u8]) {
 
 fn checks_of_lengths() {
     let a = MASK;
-    let words = b"a byte of 16, and no mask byte";
-    step_one(words, check(1), &[4, 6, 9, 0x10], &[], &[]);
     check_one(b"4 mask bytes where 5 are wanted", &a[..4], &[]);
     check_one(b"6 mask bytes where 5 are wanted", &a[..6], &[]);
     check_one(b"a nonzero byte where none is wanted", &a[..5], &[0xba]);
+    let words = b"a nonzero draw of 0 where none is wanted";
+    check_one(words, &a[..5], &[0]);
 }
 
 // Scale of one equation, with a good mask tape.
@@ -223,6 +249,19 @@ fn scales_of_lengths() {
     scale_one(b"no nonzero byte where one is wanted", &TABLE, &[]);
     let words = b"two nonzero bytes where one is wanted";
     scale_one(words, &TABLE, &[0xba, 0xba]);
+    let words = b"the same, and the first is the draw 0";
+    scale_one(words, &TABLE, &[0x10, 0xba]);
+}
+
+// Both tapes wrong: the mask tape goes first.
+fn scales_of_both() {
+    let a = MASK;
+    let words = b"7 mask bytes where 6 are wanted, and no nonzero byte";
+    step_one(words, scale(1), &TABLE, &a[..7], &[]);
+    let words = b"7 mask bytes, and two nonzero bytes";
+    step_one(words, scale(1), &TABLE, &a[..7], &[0xba, 0xba]);
+    let words = b"5 mask bytes, and two nonzero bytes";
+    step_one(words, scale(1), &TABLE, &a[..5], &[0xba, 0xba]);
 }
 
 fn scales_of_draws() {
@@ -277,7 +316,19 @@ fn mixes_of_two() {
     let a = MASK;
     let words = b"Mix with 6 mask bytes where 7 are wanted";
     step_two(words, mix(1, 2), &a[..6], &[]);
+    let words = b"Mix with 8 mask bytes";
+    step_two(words, mix(1, 2), &a[..8], &[]);
+    let words = b"Mix with 8 mask bytes, and a nonzero byte";
+    step_two(words, mix(1, 2), &a[..8], &[0xba]);
     step_two(b"Mix, accepted", mix(1, 2), &a[..7], &[]);
+}
+
+fn scales_of_two() {
+    let a = MASK;
+    let words = b"Scale of two equations with no nonzero byte";
+    step_two(words, scale(1), &a[..8], &[]);
+    let words = b"and with two nonzero bytes";
+    step_two(words, scale(1), &a[..8], &[0xba, 0xba]);
 }
 
 fn clears_of_two() {
@@ -285,6 +336,8 @@ fn clears_of_two() {
     let words = b"Clear with 4 mask bytes where 3 are wanted";
     step_two(words, clear(1, 2), &a[..4], &[]);
     step_two(b"Clear, accepted", clear(1, 2), &a[..3], &[]);
+    let words = b"Open with 2 mask bytes where 1 is wanted";
+    step_two(words, open(2), &a[..2], &[]);
     step_two(b"Open(2), accepted", open(2), &a[..1], &[]);
 }
 
@@ -334,13 +387,16 @@ fn main() {
     steps_of_buffers();
     steps_off_list();
     steps_at_end();
+    steps_of_entries();
     checks_of_lengths();
     scales_of_lengths();
+    scales_of_both();
     scales_of_draws();
     scales_beyond_one();
     steps_accepted();
     steps_accepted_at_end();
     mixes_of_two();
+    scales_of_two();
     clears_of_two();
     wanted_of_sizes();
     wanted_off_list();

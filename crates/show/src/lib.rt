@@ -14,16 +14,17 @@ use verdict::Refusal;
 
 pub mod call;
 
-// An answer, or the place of a record, as a word and up to three numbers. Unused numbers are 0, so that two can be compared.
+// An answer, or the place of a record, as a word and up to four numbers. Unused numbers are 0, so that two can be compared.
 pub struct Words {
     pub word: u64,
     pub a: u64,
     pub b: u64,
     pub c: u64,
+    pub d: u64,
 }
 
 // The words of answers, with the numbers of each.
-// 01's number and its detail
+// 01's number and its detail: one number, or row, column and share
 pub const REFUSED: u64 = 0;
 
 pub const FRESH: u64 = 1;
@@ -54,11 +55,17 @@ pub const CLEAR: u64 = 23;
 pub const OPEN: u64 = 24;
 
 pub fn tell(word: u64, a: u64, b: u64, c: u64) -> Words {
-    Words { word, a, b, c }
+    Words {
+        word,
+        a,
+        b,
+        c,
+        d: 0,
+    }
 }
 
 pub fn same(t: Words, u: Words) -> bool {
-    t.word == u.word && t.a == u.a && t.b == u.b && t.c == u.c
+    t.word == u.word && t.a == u.a && t.b == u.b && t.c == u.c && t.d == u.d
 }
 
 fn wide(x: u8) -> u64 {
@@ -68,7 +75,13 @@ fn wide(x: u8) -> u64 {
 // A refusal's number and detail, by 01's table.
 pub fn of_refusal(r: Refusal) -> Words {
     let l = r.report();
-    tell(REFUSED, l.number, l.a, l.b)
+    Words {
+        word: REFUSED,
+        a: l.number,
+        b: l.a,
+        c: l.b,
+        d: l.c,
+    }
 }
 
 fn of_counts(c: Counts) -> Words {
@@ -168,14 +181,23 @@ pub fn buffer(name: &[u8], s: &[u8]) {
     text(b"; ");
 }
 
+// Refusals 6 and 12 tell a cell.
+fn say_refused(t: Words) {
+    number(b"refused ", t.a);
+    if t.a == 6 || t.a == 12 {
+        number(b", row ", t.b);
+        number(b", column ", t.c);
+        number(b", share ", t.d);
+    } else {
+        number(b", detail ", t.b);
+    }
+}
+
 // An answer.
 pub fn say(t: Words) {
     let word = t.word;
     match word {
-        REFUSED => {
-            number(b"refused ", t.a);
-            number(b", detail ", t.b);
-        }
+        REFUSED => say_refused(t),
         FRESH => text(b"fresh"),
         COUNTS => {
             number(b"", t.a);

@@ -1,4 +1,5 @@
 pub mod Ready
 pub mod Calls
+pub mod Examples
 pub mod Once
 pub mod Meaning

@@ -6,7 +6,7 @@ use mathlib.Core.Logic.{_⊎_, ⊎-elim}
 use mathlib.Core.Path.{_≡_, refl, sym, _∙_}
 use Prim.Native.Nat.{ℕ, _+_, _-_, _*_, _≤_}
 use native.Mathlib.Decide.{ℕ-discrete}
-use native.Mathlib.Nat.{mul-le-mul}
+use native.Mathlib.Nat.{mul-le-mul, le-antisymm}
 use native.Mathlib.Omega.{arith}
 use lib.Dec.{eqb}
 use lib.ListN.{length, take}
@@ -28,8 +28,8 @@ use Rattle.course.specs.StepList.{Sizes, inList, costOf, maskCost, nonzeroCost,
 use Rattle.course.proofs.Within.{within}
 use Rattle.walk.proofs.Acted.{pivot}
 use Rattle.verdict.specs.Told.{passed, _or_}
-use Rattle.verdict.specs.Refusals.{no1, no2, no3, no4, no5, no6, no7, no8, no7step, no8step, no9, numbers, buffers}
-use Rattle.solver.specs.Refusals.{placed, ended, entries, wholeTable, dealDraws, costAt, maskAt, nonzeroAt, zeroPivot, no10, no11, no12, sizes, dealOrder, gatherOrder, tapes, solveOrder, standing, wantedOrder, placing, lending, stepOrder}
+use Rattle.verdict.specs.Refusals.{no1, no2, no3, no4, no5, no6, no7, no8, no9, no14, no15, numbers, buffers}
+use Rattle.solver.specs.Refusals.{placed, ended, entries, wholeTable, tableRows, valueRows, dealDraws, costAt, maskAt, nonzeroAt, zeroPivot, no10, no11, no12, sizes, dealOrder, gatherOrder, tapes, solveOrder, standing, wantedOrder, placing, lending, stepOrder}
 use Rattle.verdict.proofs.Told.{left, right, not-then}
 use Rattle.verdict.proofs.Passes.{one-says, two-says, three-says, same, enough, six-says, nine-says, Buffers, buffered}
 
@@ -66,11 +66,11 @@ pub record Dealing (o : Order) (values : List ℕ) (target mask : ℕ) : Type 0 
 pub dealing : (o : Order) (values : List ℕ) (target mask : ℕ) → dealOrder o values target mask ≡ passed → Dealing o values target mask
 unfolding dealOrder no7
 dealing o values target mask e =
-    let a = buffers (o .field) (entries (o .size)) values (wholeTable o) target in
+    let a = buffers (o .field) (valueRows o) (entries (o .size)) values (wholeTable o) target in
     let rest : a or no7 (dealDraws o) mask ≡ passed = right (sizes o) _ e in
     record {
       sizes = sized o (left (sizes o) _ e);
-      lent = buffered _ _ _ _ _ (left a _ rest);
+      lent = buffered _ _ _ _ _ (valueRows o) (left a _ rest);
       drawn = enough 7 _ (right a _ rest);
     }
 
@@ -83,7 +83,7 @@ pub gathering : (o : Order) (t : List ℕ) (target : ℕ) → gatherOrder o t ta
 unfolding gatherOrder
 gathering o t target e = record {
   sizes = sized o (left (sizes o) _ e);
-  lent = buffered _ _ _ _ _ (right (sizes o) _ e);
+  lent = buffered _ _ _ _ _ (tableRows o) (right (sizes o) _ e);
 }
 
 -- Solve's checks passed
@@ -97,14 +97,14 @@ pub record Solvable (o : Order) (t : List ℕ) (solution mask : ℕ) (nonzero : 
 pub solvable : (o : Order) (t : List ℕ) (solution mask : ℕ) (nonzero : List ℕ) → solveOrder o t solution mask nonzero ≡ passed → Solvable o t solution mask nonzero
 unfolding solveOrder tapes no7 no8
 solvable o t solution mask nonzero e =
-    let a = buffers (o .field) (wholeTable o) t (o .size) solution in
+    let a = buffers (o .field) (tableRows o) (wholeTable o) t (o .size) solution in
     let rest : a or tapes o mask nonzero ≡ passed = right (sizes o) _ e in
     let b = no7 (fullMask o) mask in
     let d = no8 (fullNonzero o) (length nonzero) in
     let two : b or d ≡ passed = left (b or d) _ (right a _ rest) in
     record {
       sizes = sized o (left (sizes o) _ e);
-      lent = buffered _ _ _ _ _ (left a _ rest);
+      lent = buffered _ _ _ _ _ (tableRows o) (left a _ rest);
       masks = enough 7 _ (left b d two);
       others = enough 8 _ (right b d two);
       nonzeros = right (b or d) _ (right a _ rest);
@@ -149,44 +149,49 @@ placing-says o place table solution e =
       going = s .going;
     }
 
--- 6 to 9 passed
-pub record Supplied (o : Order) (place : Place) (t : List ℕ) (mask : ℕ) (nonzero : List ℕ) : Type 0 where
-  pub elements : Below (fieldOf (o .field) .q) t
+-- 7, 14, 8, 15 and 9 passed
+pub record Supplied (o : Order) (place : Place) (mask : ℕ) (nonzero : List ℕ) : Type 0 where
   pub masks : mask ≡ maskAt o place
   pub others : length nonzero ≡ nonzeroAt o place
   pub nonzeros : no9 (o .field) nonzero ≡ passed
 
-pub lending-says : (o : Order) (place : Place) (t : List ℕ) (mask : ℕ) (nonzero : List ℕ) → lending o place t mask nonzero ≡ passed → Supplied o place t mask nonzero
-unfolding lending no7step no8step
-lending-says o place t mask nonzero e =
-    let a = no6 (o .field) t in
-    let b = no7step (maskAt o place) mask in
-    let d = no8step (nonzeroAt o place) (length nonzero) in
+pub lending-says : (o : Order) (place : Place) (mask : ℕ) (nonzero : List ℕ) → lending o place mask nonzero ≡ passed → Supplied o place mask nonzero
+unfolding lending no7 no8 no14 no15
+lending-says o place mask nonzero e =
+    let a = no7 (maskAt o place) mask in
+    let b = no14 (maskAt o place) mask in
+    let c = no8 (nonzeroAt o place) (length nonzero) in
+    let d = no15 (nonzeroAt o place) (length nonzero) in
     let f = no9 (o .field) nonzero in
-    let three : a or b or d ≡ passed = left (a or b or d) f e in
+    let four : a or b or c or d ≡ passed = left (a or b or c or d) f e in
+    let three : a or b or c ≡ passed = left (a or b or c) d four in
+    let two : a or b ≡ passed = left (a or b) c three in
     record {
-      elements = six-says (o .field) t (left a b (left (a or b) d three));
-      masks = same 7 _ (right a b (left (a or b) d three));
-      others = same 8 _ (right (a or b) d three);
-      nonzeros = right (a or b or d) f e;
+      masks = le-antisymm (enough 14 _ (right a b two)) (enough 7 _ (left a b two));
+      others = le-antisymm (enough 15 _ (right (a or b or c) d four)) (enough 8 _ (right (a or b) c three));
+      nonzeros = right (a or b or c or d) f e;
     }
 
 -- Step's checks passed
 pub record Going (o : Order) (place : Place) (t : List ℕ) (solution mask : ℕ) (nonzero : List ℕ) : Type 0 where
   pub sizes : Sizes o
   pub at : Placed o place (length t) solution
-  pub lent : Supplied o place t mask nonzero
+  pub elements : Below (fieldOf (o .field) .q) t
+  pub lent : Supplied o place mask nonzero
 
 pub going : (o : Order) (place : Place) (t : List ℕ) (solution mask : ℕ) (nonzero : List ℕ) → stepOrder o place t solution mask nonzero ≡ passed → Going o place t solution mask nonzero
 unfolding stepOrder
 going o place t solution mask nonzero e =
     let a = placing o place (length t) solution in
-    let b = lending o place t mask nonzero in
-    let rest : a or (b or no12 o place t) ≡ passed = right (sizes o) _ e in
+    let b = no6 (o .field) (tableRows o) t in
+    let c = lending o place mask nonzero in
+    let late : a or (b or (c or no12 o place t)) ≡ passed = right (sizes o) _ e in
+    let last : b or (c or no12 o place t) ≡ passed = right a _ late in
     record {
       sizes = sized o (left (sizes o) _ e);
-      at = placing-says o place (length t) solution (left a _ rest);
-      lent = lending-says o place t mask nonzero (left b _ (right a _ rest));
+      at = placing-says o place (length t) solution (left a _ late);
+      elements = six-says (o .field) (tableRows o) t (left b _ last);
+      lent = lending-says o place mask nonzero (left c _ (right b _ last));
     }
 
 -- a place that is a step is one of the list

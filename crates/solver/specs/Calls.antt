@@ -145,7 +145,7 @@ stepCall p h mask nonzero =
     call (stepOrder (orderOf p) (p .place) (h .table) (length (h .solution)) (length mask) nonzero) (lent p h)
     (stepDoes p (p .place) h mask nonzero)
 
--- ---- Wanted: the mask draws and the nonzero draws of the record's place, those that Step asks for by 7 and 8; or refusal 1, 2, 3, 10, 11
+-- ---- Wanted: the mask draws and the nonzero draws of the record's place, which Step asks for (7, 14, 8, 15); or refusal 1, 2, 3, 10, 11
 
 abbrev pub wantSays : Wanting → Says Draws
 wantSays (Want.Wanted mask nonzero) = gives (draws mask nonzero)

@@ -1,4 +1,4 @@
--- 01's refusals 10 to 12, which are about a progress record, and the order of each call. 1 to 9 stand in crate verdict.
+-- 01's refusals 10 to 12, which are about a progress record, and the order of each call. The others stand in crate verdict.
 -- Assumes nothing.
 use mathlib.Core.Bool.{Bool, true, false, not}
 use mathlib.Core.List.{List, [], _∷_}
@@ -13,8 +13,10 @@ use Rattle.course.specs.declared.Place.{Place}
 use Rattle.course.specs.declared.Place.the-variants.{At, Stopped, Done}
 use Rattle.course.specs.declared.Order.{Order}
 use Rattle.course.specs.StepList.{inList, draws, costOf, Revealed, None, Flag, Pivot, Unknown, revealedBy, fullMask, fullNonzero}
+use Rattle.verdict.specs.declared.Rows.{Rows}
+use Rattle.verdict.specs.declared.Rows.the-variants.{Shared, Values}
 use Rattle.verdict.specs.Told.{Told, refuse, _or_}
-use Rattle.verdict.specs.Refusals.{outside, no4, no5, no6, no7, no8, no7step, no8step, no9, numbers, buffers}
+use Rattle.verdict.specs.Refusals.{outside, no4, no5, no6, no7, no8, no9, no14, no15, numbers, buffers}
 
 -- ---- what the table's words mean
 
@@ -35,6 +37,13 @@ entries m = m * (m + 1)
 
 abbrev pub wholeTable : Order → ℕ
 wholeTable o = tableBytes (o .shares) (o .size) (o .size + 1)
+
+-- how a call that reads them finds a cell: rows of m + 1 sharings, or of m + 1 values
+abbrev pub tableRows : Order → Rows
+tableRows o = Shared (o .shares) (o .size + 1)
+
+abbrev pub valueRows : Order → Rows
+valueRows o = Values (o .size + 1)
 
 -- Deal's draws
 unfoldable pub dealDraws : Order → ℕ
@@ -82,9 +91,11 @@ no10 size place = refuse 10 (not (placed size place)) (0 ∷ [])
 unfoldable pub no11 : Place → Told
 no11 place = refuse 11 (ended place) (0 ∷ [])
 
--- Scale where the pivot's value is 0: j
+-- Scale where the pivot's value is 0: row, column and share, which are j, j and 0
 unfoldable pub no12 : Order → Place → List ℕ → Told
-no12 o place t = refuse 12 (zeroPivot o (revealedAt place) t) (columnOf (revealedAt place) ∷ [])
+no12 o place t =
+    let j = columnOf (revealedAt place) in
+    refuse 12 (zeroPivot o (revealedAt place) t) (j ∷ j ∷ 0 ∷ [])
 
 -- ---- the orders. Parentheses mark stages: what stands in one is worked out only once the stage before has passed
 
@@ -96,14 +107,14 @@ sizes o = numbers (o .field) (o .shares) (o .size)
 unfoldable pub dealOrder : Order → List ℕ → ℕ → ℕ → Told
 dealOrder o values target mask =
     sizes o
-    or (buffers (o .field) (entries (o .size)) values (wholeTable o) target
+    or (buffers (o .field) (valueRows o) (entries (o .size)) values (wholeTable o) target
     or no7 (dealDraws o) mask)
 
 -- Gather: 1 to 6
 unfoldable pub gatherOrder : Order → List ℕ → ℕ → Told
 gatherOrder o t target =
     sizes o
-    or buffers (o .field) (wholeTable o) t (entries (o .size)) target
+    or buffers (o .field) (tableRows o) (wholeTable o) t (entries (o .size)) target
 
 -- 7 to 9, over the draws of a full solve
 unfoldable pub tapes : Order → ℕ → List ℕ → Told
@@ -114,7 +125,7 @@ tapes o mask nonzero =
 unfoldable pub solveOrder : Order → List ℕ → ℕ → ℕ → List ℕ → Told
 solveOrder o t solution mask nonzero =
     sizes o
-    or (buffers (o .field) (wholeTable o) t (o .size) solution
+    or (buffers (o .field) (tableRows o) (wholeTable o) t (o .size) solution
     or tapes o mask nonzero)
 
 -- 10, 11
@@ -131,15 +142,20 @@ wantedOrder o place =
 unfoldable pub placing : Order → Place → ℕ → ℕ → Told
 placing o place table solution = no4 (wholeTable o) table or no5 (o .size) solution or standing (o .size) place
 
--- 6 to 9, over the draws of the place
-unfoldable pub lending : Order → Place → List ℕ → ℕ → List ℕ → Told
-lending o place t mask nonzero =
-    no6 (o .field) t or no7step (maskAt o place) mask or no8step (nonzeroAt o place) (length nonzero) or no9 (o .field) nonzero
+-- 7, 14, 8, 15, 9, over the draws of the place
+unfoldable pub lending : Order → Place → ℕ → List ℕ → Told
+lending o place mask nonzero =
+    no7 (maskAt o place) mask
+    or no14 (maskAt o place) mask
+    or no8 (nonzeroAt o place) (length nonzero)
+    or no15 (nonzeroAt o place) (length nonzero)
+    or no9 (o .field) nonzero
 
--- Step: 1 to 5, 10, 11, 6, 7, 8, 9, 12
+-- Step: 1 to 5, 10, 11, 6, 7, 14, 8, 15, 9, 12
 unfoldable pub stepOrder : Order → Place → List ℕ → ℕ → ℕ → List ℕ → Told
 stepOrder o place t solution mask nonzero =
     sizes o
     or (placing o place (length t) solution
-    or (lending o place t mask nonzero
-    or no12 o place t))
+    or (no6 (o .field) (tableRows o) t
+    or (lending o place mask nonzero
+    or no12 o place t)))

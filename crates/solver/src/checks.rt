@@ -7,13 +7,16 @@ ghost use Rattle.sharing.specs.Bounds.{mostRows, mostEntries};
 ghost use Rattle.course.specs.StepList.{Sizes};
 ghost use Rattle.verdict.specs.Told.{passed, _or_};
 ghost use Rattle.verdict.specs.Refusals.{no7, no9, buffers};
-ghost use Rattle.solver.specs.Refusals.{placed, ended, entries, wholeTable, dealDraws, costAt, maskAt, nonzeroAt, no12, sizes, dealOrder, gatherOrder, tapes, solveOrder, standing, wantedOrder, placing, lending, stepOrder};
+ghost use Rattle.solver.specs.Refusals.{placed, ended, entries, wholeTable, tableRows, valueRows, dealDraws, costAt, maskAt, nonzeroAt, no12, sizes, dealOrder, gatherOrder, tapes, solveOrder, standing, wantedOrder, placing, lending, stepOrder};
 ghost use Rattle.verdict.specs.Code.Verdicts.{told};
+ghost use Rattle.verdict.specs.Cells.{NonEmpty};
 use course::Draws;
 use course::Order;
 use course::Place;
 use course::Step;
+use verdict::Cell;
 use verdict::Refusal;
+use verdict::Rows;
 use verdict::Verdict;
 
 // 1 to 3
@@ -38,6 +41,25 @@ fn whole_table(o: Order) -> usize
     entry_count(o.size) * (o.shares as usize)
 }
 
+fn table_rows(o: Order) -> Rows
+    requires { ⌜ Sizes o ⌝ }
+    ensures { λ r. ⌜ (r ≡ tableRows o) × NonEmpty r ⌝ }
+{
+    Rows::Shared {
+        shares: o.shares as usize,
+        width: o.size as usize + 1,
+    }
+}
+
+fn value_rows(o: Order) -> Rows
+    requires { ⌜ Sizes o ⌝ }
+    ensures { λ r. ⌜ (r ≡ valueRows o) × NonEmpty r ⌝ }
+{
+    Rows::Values {
+        width: o.size as usize + 1,
+    }
+}
+
 fn deal_draws(o: Order) -> usize
     requires { ⌜ Sizes o ⌝ }
     ensures { λ r. ⌜ r ≡ dealDraws o ⌝ }
@@ -47,10 +69,18 @@ fn deal_draws(o: Order) -> usize
 
 fn deal_lent(o: Order, values: &[u8], target: usize, mask: usize) -> Verdict
     requires { ⌜ Sizes o ⌝ }
-    ensures { λ r. ⌜ told r ≡ buffers (o .field) (entries (o .size)) (now (values .entry)) (wholeTable o) target or no7 (dealDraws o) mask ⌝ }
+    ensures { λ r. ⌜ told r ≡ buffers (o .field) (valueRows o) (entries (o .size)) (now (values .entry)) (wholeTable o) target or no7 (dealDraws o) mask ⌝ }
 {
     let draws = deal_draws(o);
-    let v = verdict::buffers(o.field, entry_count(o.size), values, whole_table(o), target);
+    let rows = value_rows(o);
+    let v = verdict::buffers(
+        o.field,
+        rows,
+        entry_count(o.size),
+        values,
+        whole_table(o),
+        target,
+    );
     verdict::or_else(v, verdict::no7(draws, mask))
 }
 
@@ -73,7 +103,15 @@ pub fn gather(o: Order, table: &[u8], target: usize) -> Verdict
     let Verdict::Pass = v else {
         return v;
     };
-    verdict::buffers(o.field, whole_table(o), table, entry_count(o.size), target)
+    let rows = table_rows(o);
+    verdict::buffers(
+        o.field,
+        rows,
+        whole_table(o),
+        table,
+        entry_count(o.size),
+        target,
+    )
 }
 
 // The first k bytes of s, or all of them where there are fewer.
@@ -101,9 +139,17 @@ fn tapes(o: Order, mask: usize, nonzero: &[u8]) -> Verdict
 
 fn solve_lent(o: Order, table: &[u8], solution: usize, mask: usize, nonzero: &[u8]) -> Verdict
     requires { ⌜ Sizes o ⌝ }
-    ensures { λ r. ⌜ told r ≡ buffers (o .field) (wholeTable o) (now (table .entry)) (o .size) solution or tapes o mask (now (nonzero .entry)) ⌝ }
+    ensures { λ r. ⌜ told r ≡ buffers (o .field) (tableRows o) (wholeTable o) (now (table .entry)) (o .size) solution or tapes o mask (now (nonzero .entry)) ⌝ }
 {
-    let v = verdict::buffers(o.field, whole_table(o), table, o.size as usize, solution);
+    let rows = table_rows(o);
+    let v = verdict::buffers(
+        o.field,
+        rows,
+        whole_table(o),
+        table,
+        o.size as usize,
+        solution,
+    );
     let Verdict::Pass = v else {
         return v;
     };
@@ -187,18 +233,19 @@ pub fn cost_at(o: Order, p: Place) -> Draws
     }
 }
 
-// 6 to 9
-fn lending(o: Order, p: Place, table: &[u8], mask: usize, nonzero: &[u8]) -> Verdict
+// 7, 14, 8, 15, 9
+fn lending(o: Order, p: Place, mask: usize, nonzero: &[u8]) -> Verdict
     requires { ⌜ Sizes o ⌝ }
     requires { ⌜ placed (o .size) p ≡ true ⌝ }
-    ensures { λ r. ⌜ told r ≡ lending o p (now (table .entry)) mask (now (nonzero .entry)) ⌝ }
+    ensures { λ r. ⌜ told r ≡ lending o p mask (now (nonzero .entry)) ⌝ }
 {
     let cost = cost_at(o, p);
     let draws = cost.mask;
     let others = cost.nonzero;
-    let v = verdict::no6(o.field, table);
-    let v = verdict::or_else(v, verdict::no7step(draws, mask));
-    let v = verdict::or_else(v, verdict::no8step(others, nonzero.len()));
+    let v = verdict::no7(draws, mask);
+    let v = verdict::or_else(v, verdict::no14(draws, mask));
+    let v = verdict::or_else(v, verdict::no8(others, nonzero.len()));
+    let v = verdict::or_else(v, verdict::no15(others, nonzero.len()));
     let Verdict::Pass = v else {
         return v;
     };
@@ -224,10 +271,17 @@ fn no12(o: Order, p: Place, table: &[u8], mask: &[u8], nonzero: &[u8]) -> Verdic
     let m = o.size as usize;
     let c = j as usize;
     let zero = table::opens_zero(o.field, n, m, m + 1, table, c, c, nonzero, mask);
-    verdict::refuse_if(zero, Refusal::ZeroPivot(j))
+    verdict::refuse_if(
+        zero,
+        Refusal::ZeroPivot(Cell {
+            row: j,
+            column: j,
+            share: 0,
+        }),
+    )
 }
 
-// 1 to 5, 10, 11, 6, 7, 8, 9, 12
+// 1 to 5, 10, 11, 6, 7, 14, 8, 15, 9, 12
 pub fn step(
     o: Order,
     p: Place,
@@ -246,9 +300,13 @@ pub fn step(
     let Verdict::Pass = w else {
         return w;
     };
-    let x = lending(o, p, table, mask.len(), nonzero);
+    let x = verdict::no6(o.field, table_rows(o), table);
     let Verdict::Pass = x else {
         return x;
+    };
+    let y = lending(o, p, mask.len(), nonzero);
+    let Verdict::Pass = y else {
+        return y;
     };
     no12(o, p, table, mask, nonzero)
 }

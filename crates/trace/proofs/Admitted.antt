@@ -2,8 +2,9 @@
 -- Assumes nothing.
 use mathlib.Core.Bool.{true, false, not}
 use mathlib.Core.List.{List}
-use mathlib.Core.Path.{_≡_, refl, ap}
+use mathlib.Core.Path.{_≡_, refl, sym, ap}
 use Prim.Native.Nat.{ℕ, _<_, _≤_}
+use native.Mathlib.Nat.{le-of-eq}
 use lib.ListN.{length, take}
 use Rattle.field.specs.Field.{fieldOf}
 use Rattle.sharing.specs.Rules.{drawAt}
@@ -13,8 +14,8 @@ use Rattle.course.specs.declared.Place.the-variants.{At}
 use Rattle.course.specs.declared.Order.{Order}
 use Rattle.course.specs.StepList.{Sizes, inList, maskCost, nonzeroCost, revealedBy, fullMask, fullNonzero}
 use Rattle.verdict.specs.Told.{passed}
-use Rattle.verdict.specs.Refusals.{no4, no5, no7, no8, no7step, no8step, numbers}
-use Rattle.solver.specs.Refusals.{placed, ended, entries, wholeTable, costAt, zeroPivot, no10, no11, no12, sizes, gatherOrder, tapes, solveOrder, standing, placing, lending, stepOrder}
+use Rattle.verdict.specs.Refusals.{no4, no5, no7, no8, no14, no15, numbers}
+use Rattle.solver.specs.Refusals.{placed, ended, entries, wholeTable, tableRows, costAt, zeroPivot, no10, no11, no12, sizes, gatherOrder, tapes, solveOrder, standing, placing, lending, stepOrder}
 use Rattle.verdict.proofs.Passes.{unmet, one-passes, two-passes, three-passes, right-length, long-enough, six-passes, nine-passes, buffers-pass, _and_}
 
 pub sizes-pass : (o : Order) → Sizes o → sizes o ≡ passed
@@ -24,7 +25,7 @@ sizes-pass o z = one-passes (o .field) (z .field) and two-passes (o .shares) (z 
 module _ (o : Order) (z : Sizes o) (t : List ℕ) (whole : length t ≡ wholeTable o) (elements : Below (fieldOf (o .field) .q) t) where
   pub gather-passes : (target : ℕ) → target ≡ entries (o .size) → gatherOrder o t target ≡ passed
   unfolding gatherOrder
-  gather-passes target e = sizes-pass o z and buffers-pass (o .field) (wholeTable o) t (entries (o .size)) target whole e elements
+  gather-passes target e = sizes-pass o z and buffers-pass (o .field) (wholeTable o) t (entries (o .size)) target (tableRows o) whole e elements
 
   pub solve-passes : (solution mask : ℕ) (nonzero : List ℕ) → solution ≡ o .size → fullMask o ≤ mask → fullNonzero o ≤ length nonzero
       → ((k : ℕ) → k < length (take (fullNonzero o) nonzero) → drawAt (fieldOf (o .field)) (take (fullNonzero o) nonzero) k ≡ 0 → ⊥)
@@ -32,16 +33,19 @@ module _ (o : Order) (z : Sizes o) (t : List ℕ) (whole : length t ≡ wholeTab
   unfolding solveOrder tapes no7 no8
   solve-passes solution mask nonzero a b c d =
       sizes-pass o z
-      and (buffers-pass (o .field) (wholeTable o) t (o .size) solution whole a elements
+      and (buffers-pass (o .field) (wholeTable o) t (o .size) solution (tableRows o) whole a elements
       and (long-enough 7 _ b and long-enough 8 _ c and nine-passes (o .field) (take (fullNonzero o) nonzero) d))
 
   pub step-passes : (s : Step) (solution mask : ℕ) (nonzero : List ℕ) → inList (o .size) s ≡ true → zeroPivot o (revealedBy s) t ≡ false
       → solution ≡ o .size → mask ≡ maskCost o s → length nonzero ≡ nonzeroCost o s
       → ((k : ℕ) → k < length nonzero → drawAt (fieldOf (o .field)) nonzero k ≡ 0 → ⊥)
       → stepOrder o (At s) t solution mask nonzero ≡ passed
-  unfolding stepOrder placing standing lending no4 no5 no7step no8step no10 no11 no12 placed ended costAt
+  unfolding stepOrder placing standing lending no4 no5 no7 no8 no14 no15 no10 no11 no12 placed ended costAt
   step-passes s solution mask nonzero listed pivot a b c d =
       sizes-pass o z
       and (right-length 4 _ whole and right-length 5 _ a and (unmet 10 _ (ap not listed) and refl)
-      and (six-passes (o .field) t elements and right-length 7 _ b and right-length 8 _ c and nine-passes (o .field) nonzero d
-      and unmet 12 _ pivot))
+      and (six-passes (o .field) (tableRows o) t elements
+      and (long-enough 7 _ (le-of-eq (sym b)) and long-enough 14 _ (le-of-eq b)
+      and long-enough 8 _ (le-of-eq (sym c)) and long-enough 15 _ (le-of-eq c)
+      and nine-passes (o .field) nonzero d
+      and unmet 12 _ pivot)))

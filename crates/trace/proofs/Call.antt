@@ -55,7 +55,7 @@ module _ (h : Host) (c : Beside) where
       place = e;
       listed = w .at .listed;
       table = w .at .whole;
-      elements = w .lent .elements;
+      elements = w .elements;
       solution = w .at .room;
       mask = w .lent .masks;
       nonzero = w .lent .others;

@@ -12,9 +12,11 @@ use Rattle.sharing.specs.Bounds.{mostRows}
 use Rattle.course.specs.declared.Place.{Place}
 use Rattle.course.specs.declared.Order.{Order}
 use Rattle.course.specs.StepList.{fullMask, fullNonzero}
+use Rattle.verdict.specs.declared.Rows.{Rows}
+use Rattle.verdict.specs.declared.Rows.the-variants.{Values}
 use Rattle.verdict.specs.Told.{Told, passed, refused, Line, refuse, _or_}
-use Rattle.verdict.specs.Refusals.{differs, outside, anyPlace, tooLarge, zeroDraw, no1, no2, no3, no4, no5, no6, no7, no8, no7step, no8step, no9, numbers, buffers}
-use Rattle.solver.specs.Refusals.{wholeTable, placed, ended, entries, dealDraws, maskAt, nonzeroAt, revealedAt, zeroPivot, no10, no11, no12, sizes, dealOrder, gatherOrder, tapes, solveOrder, standing, wantedOrder, placing, lending, stepOrder}
+use Rattle.verdict.specs.Refusals.{differs, outside, anyPlace, tooLarge, zeroDraw, no1, no2, no3, no4, no5, no6, no7, no8, no9, no14, no15, numbers, buffers}
+use Rattle.solver.specs.Refusals.{wholeTable, tableRows, valueRows, placed, ended, entries, dealDraws, maskAt, nonzeroAt, revealedAt, zeroPivot, no10, no11, no12, sizes, dealOrder, gatherOrder, tapes, solveOrder, standing, wantedOrder, placing, lending, stepOrder}
 use Rattle.plain.specs.Calls.{plainOrder}
 use Rattle.trace.specs.Trace.{oneOf}
 
@@ -50,9 +52,9 @@ five : (wanted long : ℕ) → Numbered 5 (no5 wanted long)
 unfolding no5
 five wanted long = numbered 5 (differs long wanted) _
 
-six : (f : ℕ) (input : List ℕ) → Numbered 6 (no6 f input)
+six : (f : ℕ) (rows : Rows) (input : List ℕ) → Numbered 6 (no6 f rows input)
 unfolding no6
-six f input = numbered 6 (anyPlace (tooLarge f) input) _
+six f rows input = numbered 6 (anyPlace (tooLarge f) input) _
 
 seven : (wanted long : ℕ) → Numbered 7 (no7 wanted long)
 unfolding no7
@@ -61,14 +63,6 @@ seven wanted long = numbered 7 (ltb long wanted) _
 eight : (wanted long : ℕ) → Numbered 8 (no8 wanted long)
 unfolding no8
 eight wanted long = numbered 8 (ltb long wanted) _
-
-seven-step : (wanted long : ℕ) → Numbered 7 (no7step wanted long)
-unfolding no7step
-seven-step wanted long = numbered 7 (differs long wanted) _
-
-eight-step : (wanted long : ℕ) → Numbered 8 (no8step wanted long)
-unfolding no8step
-eight-step wanted long = numbered 8 (differs long wanted) _
 
 nine : (f : ℕ) (draws : List ℕ) → Numbered 9 (no9 f draws)
 unfolding no9
@@ -85,6 +79,14 @@ eleven p = numbered 11 (ended p) _
 twelve : (o : Order) (p : Place) (t : List ℕ) → Numbered 12 (no12 o p t)
 unfolding no12
 twelve o p t = numbered 12 (zeroPivot o (revealedAt p) t) _
+
+fourteen : (wanted long : ℕ) → Numbered 14 (no14 wanted long)
+unfolding no14
+fourteen wanted long = numbered 14 (ltb wanted long) _
+
+fifteen : (wanted long : ℕ) → Numbered 15 (no15 wanted long)
+unfolding no15
+fifteen wanted long = numbered 15 (ltb wanted long) _
 
 -- ---- an order gives the numbers of its checks
 
@@ -115,11 +117,11 @@ module _ (ns : List ℕ) where
   unfolding numbers
   sizes-in o a b c = in-list ns a (one (o .field)) then in-list ns b (two (o .shares)) then in-list ns c (three (o .size))
 
-  buffers-in : (f wanted : ℕ) (input : List ℕ) (target long : ℕ) → oneOf 4 ns ≡ true → oneOf 5 ns ≡ true → oneOf 6 ns ≡ true
-      → Gives (Among ns) (buffers f wanted input target long)
+  buffers-in : (f : ℕ) (rows : Rows) (wanted : ℕ) (input : List ℕ) (target long : ℕ) → oneOf 4 ns ≡ true → oneOf 5 ns ≡ true → oneOf 6 ns ≡ true
+      → Gives (Among ns) (buffers f rows wanted input target long)
   unfolding buffers
-  buffers-in f wanted input target long a b c =
-      in-list ns a (four wanted (length input)) then in-list ns b (five target long) then in-list ns c (six f input)
+  buffers-in f rows wanted input target long a b c =
+      in-list ns a (four wanted (length input)) then in-list ns b (five target long) then in-list ns c (six f rows input)
 
 -- Start, and the counts of an order
 pub sizes-give : (o : Order) → Gives (Among (1 ∷ 2 ∷ 3 ∷ [])) (sizes o)
@@ -131,20 +133,20 @@ pub deal-gives : (o : Order) (values : List ℕ) (target mask : ℕ)
 unfolding dealOrder oneOf
 deal-gives o values target mask =
     sizes-in _ o refl refl refl
-    then (buffers-in _ (o .field) (entries (o .size)) values (wholeTable o) target refl refl refl
+    then (buffers-in _ (o .field) (valueRows o) (entries (o .size)) values (wholeTable o) target refl refl refl
     then in-list _ refl (seven (dealDraws o) mask))
 
 pub gather-gives : (o : Order) (t : List ℕ) (target : ℕ) → Gives (Among (1 ∷ 2 ∷ 3 ∷ 4 ∷ 5 ∷ 6 ∷ [])) (gatherOrder o t target)
 unfolding gatherOrder oneOf
 gather-gives o t target =
-    sizes-in _ o refl refl refl then buffers-in _ (o .field) (wholeTable o) t (entries (o .size)) target refl refl refl
+    sizes-in _ o refl refl refl then buffers-in _ (o .field) (tableRows o) (wholeTable o) t (entries (o .size)) target refl refl refl
 
 pub solve-gives : (o : Order) (t : List ℕ) (solution mask : ℕ) (nonzero : List ℕ)
     → Gives (Among (1 ∷ 2 ∷ 3 ∷ 4 ∷ 5 ∷ 6 ∷ 7 ∷ 8 ∷ 9 ∷ [])) (solveOrder o t solution mask nonzero)
 unfolding solveOrder tapes oneOf
 solve-gives o t solution mask nonzero =
     sizes-in _ o refl refl refl
-    then (buffers-in _ (o .field) (wholeTable o) t (o .size) solution refl refl refl
+    then (buffers-in _ (o .field) (tableRows o) (wholeTable o) t (o .size) solution refl refl refl
     then (in-list _ refl (seven (fullMask o) mask) then in-list _ refl (eight (fullNonzero o) (length nonzero)) then in-list _ refl (nine (o .field) (take (fullNonzero o) nonzero))))
 
 pub wanted-gives : (o : Order) (p : Place) → Gives (Among (1 ∷ 2 ∷ 3 ∷ 10 ∷ 11 ∷ [])) (wantedOrder o p)
@@ -154,7 +156,7 @@ wanted-gives o p = sizes-in _ o refl refl refl then (in-list _ refl (ten (o .siz
 pub plain-gives : (f m : ℕ) (values : List ℕ) (long : ℕ) → Gives (Among (1 ∷ 3 ∷ 4 ∷ 5 ∷ 6 ∷ [])) (plainOrder f m values long)
 unfolding plainOrder oneOf
 plain-gives f m values long =
-    in-list _ refl (one f) then in-list _ refl (three m) then buffers-in _ f (m * (m + 1)) values m long refl refl refl
+    in-list _ refl (one f) then in-list _ refl (three m) then buffers-in _ f (Values (m + 1)) (m * (m + 1)) values m long refl refl refl
 
 -- ---- Step, by what is lent
 
@@ -174,7 +176,7 @@ each-at P (v ∷ vs) e zero l g = ⊎-elim (λ (h : v ≡ passed). absurd (no-re
 each-at P (v ∷ vs) e (suc k) l g = each-at (λ (j : ℕ). P (suc j)) vs (e .1) k l g
 
 module _ (o : Order) (p : Place) (t : List ℕ) (solution mask : ℕ) (nonzero : List ℕ) where
-  -- its checks, each at its number
+  -- its checks, each at its number; 13 is desk's
   abbrev pub checks : List Told
   checks =
       passed
@@ -183,13 +185,16 @@ module _ (o : Order) (p : Place) (t : List ℕ) (solution mask : ℕ) (nonzero :
       ∷ no3 (o .size)
       ∷ no4 (wholeTable o) (length t)
       ∷ no5 (o .size) solution
-      ∷ no6 (o .field) t
-      ∷ no7step (maskAt o p) mask
-      ∷ no8step (nonzeroAt o p) (length nonzero)
+      ∷ no6 (o .field) (tableRows o) t
+      ∷ no7 (maskAt o p) mask
+      ∷ no8 (nonzeroAt o p) (length nonzero)
       ∷ no9 (o .field) nonzero
       ∷ no10 (o .size) p
       ∷ no11 p
       ∷ no12 o p t
+      ∷ passed
+      ∷ no14 (maskAt o p) mask
+      ∷ no15 (nonzeroAt o p) (length nonzero)
       ∷ []
 
   -- what it is refused by is what the check of that number says
@@ -204,11 +209,13 @@ module _ (o : Order) (p : Place) (t : List ℕ) (solution mask : ℕ) (nonzero :
   by-number =
       own refl (one (o .field)) then own refl (two (o .shares)) then own refl (three (o .size))
       then (own refl (four (wholeTable o) (length t)) then own refl (five (o .size) solution) then (own refl (ten (o .size) p) then own refl (eleven p))
-      then (own refl (six (o .field) t)
-      then own refl (seven-step (maskAt o p) mask)
-      then own refl (eight-step (nonzeroAt o p) (length nonzero))
+      then (own refl (six (o .field) (tableRows o) t)
+      then (own refl (seven (maskAt o p) mask)
+      then own refl (fourteen (maskAt o p) mask)
+      then own refl (eight (nonzeroAt o p) (length nonzero))
+      then own refl (fifteen (nonzeroAt o p) (length nonzero))
       then own refl (nine (o .field) nonzero)
-      then own refl (twelve o p t)))
+      then own refl (twelve o p t))))
 
   -- a number whose check passes is not given, wherever it stands in the order
   pub not-given : (k : ℕ) → getD checks k passed ≡ passed → (l : Line) → stepOrder o p t solution mask nonzero ≡ refused l → l .number ≡ k → ⊥

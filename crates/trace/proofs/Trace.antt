@@ -145,6 +145,9 @@ module _ (o : Order) (sized : Sizes o) (t y : List ℕ) (cs : List Beside) where
       also inl (unmet 10 _ (ap not (placed-at o t y d g (d .progress .place) refl)))
       also inr refl
       also inl (unmet 12 _ (g .firm))
+      also inl refl
+      also inr refl
+      also inr refl
       also tt))
 
   -- so refusals 10 and 12 are not met

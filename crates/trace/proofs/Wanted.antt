@@ -1,17 +1,18 @@
--- What `wanted` says is what the next call must be lent: a call with these lengths is not refused 7 or 8.
+-- What `wanted` says is what the next call must be lent: a call with these lengths is not refused 7 or 14, nor 8 or 15.
 -- Assumes nothing.
-use mathlib.Core.Path.{_≡_, refl, ap, _∙_}
+use mathlib.Core.Path.{_≡_, refl, sym, ap, _∙_}
 use Prim.Native.Nat.{ℕ}
+use native.Mathlib.Nat.{le-of-eq}
 use native.Mathlib.Omega.{arith}
 use lib.ListN.{length}
 use Rattle.course.specs.declared.Draws.{Draws}
 use Rattle.verdict.specs.Told.{Told, passed, refused}
-use Rattle.verdict.specs.Refusals.{no7step, no8step}
+use Rattle.verdict.specs.Refusals.{no7, no8, no14, no15}
 use Rattle.solver.specs.Refusals.{costAt, wantedOrder}
 use Rattle.verdict.specs.Calls.{refuses, gives, call}
 use Rattle.solver.specs.Calls.{wantedCall}
 use Rattle.trace.specs.Trace.{Beside, Host, orderIn, Never}
-use Rattle.verdict.proofs.Passes.{right-length}
+use Rattle.verdict.proofs.Passes.{long-enough}
 use Rattle.trace.proofs.Trace.{never}
 
 module _ (h : Host) (c : Beside) (d : Draws) where
@@ -30,10 +31,14 @@ module _ (h : Host) (c : Beside) (d : Draws) where
     wants : d ≡ costAt (orderIn h) (h .progress .place)
     wants = told (wantedOrder (orderIn h) (h .progress .place)) refl says
 
-    pub wanted-mask : length (c .mask) ≡ d .mask → Never 7 h c
-    unfolding no7step
-    wanted-mask l = never h c 7 (right-length 7 _ (l ∙ ap (λ (e : Draws). e .mask) wants))
+    pub wanted-mask : length (c .mask) ≡ d .mask → Never 7 h c × Never 14 h c
+    unfolding no7 no14
+    wanted-mask l =
+        let e = l ∙ ap (λ (x : Draws). x .mask) wants in
+        (never h c 7 (long-enough 7 _ (le-of-eq (sym e))), never h c 14 (long-enough 14 _ (le-of-eq e)))
 
-    pub wanted-nonzero : length (c .nonzero) ≡ d .nonzero → Never 8 h c
-    unfolding no8step
-    wanted-nonzero l = never h c 8 (right-length 8 _ (l ∙ ap (λ (e : Draws). e .nonzero) wants))
+    pub wanted-nonzero : length (c .nonzero) ≡ d .nonzero → Never 8 h c × Never 15 h c
+    unfolding no8 no15
+    wanted-nonzero l =
+        let e = l ∙ ap (λ (x : Draws). x .nonzero) wants in
+        (never h c 8 (long-enough 8 _ (le-of-eq (sym e))), never h c 15 (long-enough 15 _ (le-of-eq e)))

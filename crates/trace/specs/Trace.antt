@@ -160,7 +160,7 @@ Only ns h c = (l : Line) → called h c .says ≡ refuses l → oneOf (l .number
 
 -- those by which a call of such a run can be refused, in Step's order: for what it lends, or because the record has ended
 abbrev pub possible : List ℕ
-possible = 4 ∷ 5 ∷ 11 ∷ 6 ∷ 7 ∷ 8 ∷ 9 ∷ []
+possible = 4 ∷ 5 ∷ 11 ∷ 6 ∷ 7 ∷ 14 ∷ 8 ∷ 15 ∷ 9 ∷ []
 
 abbrev pub Never : ℕ → Host → Beside → Type 0
 Never k h c = (l : Line) → called h c .says ≡ refuses l → l .number ≡ k → ⊥

@@ -1,5 +1,6 @@
 pub mod Told
 pub mod Verdicts
+pub mod Cells
 pub mod Scan
 pub mod SomeBits
 pub mod Passes

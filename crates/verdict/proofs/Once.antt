@@ -5,9 +5,11 @@ use mathlib.Core.List.{[], _∷_}
 use mathlib.Core.Path.{_≡_, refl, sym, ap, _∙_}
 use Prim.Native.Nat.{ℕ}
 use lib.ListN.{getD}
+use Rattle.verdict.specs.declared.Cell.{Cell}
 use Rattle.verdict.specs.declared.Refusal.{Refusal}
-use Rattle.verdict.specs.declared.Refusal.the-variants.{Field, Shares, Size, Input, Target, Entry, MaskTape, NonzeroTape, ZeroDraw, OffList, Ended, ZeroPivot}
+use Rattle.verdict.specs.declared.Refusal.the-variants.{Field, Shares, Size, Input, Target, Entry, MaskShort, NonzeroShort, ZeroDraw, OffList, Ended, ZeroPivot, MaskLong, NonzeroLong}
 use Rattle.verdict.specs.Told.{Line}
+use Rattle.verdict.specs.Cells.{cell}
 use Rattle.verdict.specs.Refusals.{paper}
 use Rattle.verdict.specs.Calls.{Says, Outcome, after}
 
@@ -15,7 +17,10 @@ use Rattle.verdict.specs.Calls.{Says, Outcome, after}
 pub back : Line → Refusal
 back l =
     let d : ℕ = getD (l .detail) 0 0 in
-    getD (Ended ∷ Field d ∷ Shares d ∷ Size d ∷ Input d ∷ Target d ∷ Entry d ∷ MaskTape d ∷ NonzeroTape d ∷ ZeroDraw d ∷ OffList ∷ Ended ∷ ZeroPivot d ∷ []) (l .number) Ended
+    let c : Cell = cell d (getD (l .detail) 1 0) (getD (l .detail) 2 0) in
+    getD
+    (Ended ∷ Field d ∷ Shares d ∷ Size d ∷ Input d ∷ Target d ∷ Entry c ∷ MaskShort d ∷ NonzeroShort d ∷ ZeroDraw d ∷ OffList ∷ Ended ∷ ZeroPivot c ∷ Ended ∷ MaskLong d ∷ NonzeroLong d ∷ [])
+    (l .number) Ended
 
 pub back-paper : (r : Refusal) → back (paper r) ≡ r
 unfolding back
@@ -24,13 +29,15 @@ back-paper (Shares n) = refl
 back-paper (Size m) = refl
 back-paper (Input k) = refl
 back-paper (Target k) = refl
-back-paper (Entry i) = refl
-back-paper (MaskTape k) = refl
-back-paper (NonzeroTape k) = refl
+back-paper (Entry c) = refl
+back-paper (MaskShort k) = refl
+back-paper (NonzeroShort k) = refl
 back-paper (ZeroDraw i) = refl
 back-paper OffList = refl
 back-paper Ended = refl
-back-paper (ZeroPivot j) = refl
+back-paper (ZeroPivot c) = refl
+back-paper (MaskLong k) = refl
+back-paper (NonzeroLong k) = refl
 
 -- one outcome at most: whatever the call is to come to, two answers that say it are one, and so is what is left of what was lent
 abbrev pub Once : {E A : Type 0} → (E → Says A) → Type 0 → Type 0

@@ -1,4 +1,4 @@
--- Each of the checks 1 to 9 both ways: what a pass says, and what passes.
+-- Each check both ways: what a pass says, and what passes.
 -- Assumes nothing.
 use mathlib.Core.Bool.{Bool, true, false, not, _||_, _&&_, false≢true}
 use mathlib.Core.List.{List, [], _∷_}
@@ -16,6 +16,7 @@ use Rattle.field.proofs.Fields.{field-of}
 use Rattle.sharing.specs.Rules.{drawAt}
 use Rattle.sharing.specs.Lists.{Below}
 use Rattle.sharing.specs.Bounds.{mostRows}
+use Rattle.verdict.specs.declared.Rows.{Rows}
 use Rattle.verdict.specs.Told.{Told, passed, refuse, _or_}
 use Rattle.verdict.specs.Refusals.{differs, outside, firstPlace, anyPlace, tooLarge, zeroDraw, no1, no2, no3, no4, no5, no6, no9, buffers}
 use Rattle.verdict.proofs.Told.{left, right, not-then}
@@ -68,7 +69,7 @@ pub three-passes : (m : ℕ) → 1 ≤ m → m ≤ mostRows → no3 m ≡ passed
 unfolding no3
 three-passes m a b = unmet 3 _ (within 1 mostRows m a b)
 
--- ---- 4, 5, 7 and 8: a length that must be the one wanted, or may be more
+-- ---- 4, 5, 7, 8, 14 and 15: a length that must be the one wanted, or may be more, or less
 
 module _ (k : ℕ) {long wanted : ℕ} (d : List ℕ) where
   pub same : refuse k (differs long wanted) d ≡ passed → long ≡ wanted
@@ -102,14 +103,14 @@ module _ (test : ℕ → Bool) where
         before-first test xs i (omega arith)
 
 -- 6 passes over a list of elements
-pub six-passes : (f : ℕ) (t : List ℕ) → Below (fieldOf f .q) t → no6 f t ≡ passed
+pub six-passes : (f : ℕ) (rows : Rows) (t : List ℕ) → Below (fieldOf f .q) t → no6 f rows t ≡ passed
 unfolding no6 tooLarge
-six-passes f t b = no-place (tooLarge f) 6 t _ (λ i l. lt-leb (fieldOf f .q) (getD t i 0) (b .at i))
+six-passes f rows t b = no-place (tooLarge f) 6 t _ (λ i l. lt-leb (fieldOf f .q) (getD t i 0) (b .at i))
 
 -- and over no other list
-pub six-says : (f : ℕ) (t : List ℕ) → no6 f t ≡ passed → Below (fieldOf f .q) t
+pub six-says : (f : ℕ) (rows : Rows) (t : List ℕ) → no6 f rows t ≡ passed → Below (fieldOf f .q) t
 unfolding no6 tooLarge
-six-says f t e = record { at = at }
+six-says f rows t e = record { at = at }
   where
     at : (i : ℕ) → getD t i 0 < fieldOf f .q
     at i = elim (decLt i (length t)) [
@@ -138,18 +139,19 @@ module _ (f wanted : ℕ) (input : List ℕ) (target long : ℕ) where
     pub room : long ≡ target
     pub elements : Below (fieldOf f .q) input
 
-  pub buffered : buffers f wanted input target long ≡ passed → Buffers
+  pub buffered : (rows : Rows) → buffers f rows wanted input target long ≡ passed → Buffers
   unfolding buffers no4 no5
-  buffered e =
+  buffered rows e =
       let a = no4 wanted (length input) in
       let b = no5 target long in
-      let two : a or b ≡ passed = left (a or b) (no6 f input) e in
+      let two : a or b ≡ passed = left (a or b) (no6 f rows input) e in
       record {
         whole = same 4 _ (left a b two);
         room = same 5 _ (right a b two);
-        elements = six-says f input (right (a or b) (no6 f input) e);
+        elements = six-says f rows input (right (a or b) (no6 f rows input) e);
       }
 
-  pub buffers-pass : length input ≡ wanted → long ≡ target → Below (fieldOf f .q) input → buffers f wanted input target long ≡ passed
+  pub buffers-pass : (rows : Rows) → length input ≡ wanted → long ≡ target → Below (fieldOf f .q) input
+      → buffers f rows wanted input target long ≡ passed
   unfolding buffers no4 no5
-  buffers-pass a b c = right-length 4 _ a and right-length 5 _ b and six-passes f input c
+  buffers-pass rows a b c = right-length 4 _ a and right-length 5 _ b and six-passes f rows input c

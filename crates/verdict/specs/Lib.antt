@@ -1,4 +1,5 @@
 pub mod Told
+pub mod Cells
 pub mod Refusals
 pub mod Calls
 pub mod Code

@@ -1,5 +1,5 @@
--- 01's table of refusals: the number and detail of each, and a definition for each of 1 to 9, which need no more than the numbers and bytes
--- that they are about. 10 to 12 are about a progress record, and stand with the calls.
+-- 01's table of refusals, with R-2's rows and details: the number and detail of each, and a definition for each of 1 to 9, 14 and 15, which
+-- need no more than the numbers and bytes that they are about. 10 to 12 are about a progress record, and stand with the calls.
 -- Assumes nothing.
 use mathlib.Core.Bool.{Bool, true, false, not, _||_, _&&_}
 use mathlib.Core.List.{List, [], _∷_}
@@ -8,10 +8,12 @@ use lib.Dec.{eqb, ltb, leb}
 use lib.ListN.{length, getD}
 use Rattle.field.specs.Field.{draw, fieldOf}
 use Rattle.sharing.specs.Bounds.{mostRows}
+use Rattle.verdict.specs.declared.Rows.{Rows}
 use Rattle.verdict.specs.declared.Refusal.{Refusal}
 use Rattle.verdict.specs.declared.Refusal.the-variants as R
 use Rattle.verdict.specs.declared.Report.{Report}
 use Rattle.verdict.specs.Told.{Told, Line, line, refuse, _or_}
+use Rattle.verdict.specs.Cells.{three, cellAt}
 
 -- the paper's number and detail of each case of the enum
 abbrev pub paper : Refusal → Line
@@ -20,13 +22,15 @@ paper (R.Shares n) = line 2 (n ∷ [])
 paper (R.Size m) = line 3 (m ∷ [])
 paper (R.Input wanted) = line 4 (wanted ∷ [])
 paper (R.Target wanted) = line 5 (wanted ∷ [])
-paper (R.Entry place) = line 6 (place ∷ [])
-paper (R.MaskTape wanted) = line 7 (wanted ∷ [])
-paper (R.NonzeroTape wanted) = line 8 (wanted ∷ [])
+paper (R.Entry c) = line 6 (three c)
+paper (R.MaskShort wanted) = line 7 (wanted ∷ [])
+paper (R.NonzeroShort wanted) = line 8 (wanted ∷ [])
 paper (R.ZeroDraw place) = line 9 (place ∷ [])
 paper R.OffList = line 10 (0 ∷ [])
 paper R.Ended = line 11 (0 ∷ [])
-paper (R.ZeroPivot j) = line 12 (j ∷ [])
+paper (R.ZeroPivot c) = line 12 (three c)
+paper (R.MaskLong wanted) = line 14 (wanted ∷ [])
+paper (R.NonzeroLong wanted) = line 15 (wanted ∷ [])
 
 -- the same as numbers: what a detail has not is 0
 abbrev pub reportOf : Line → Report
@@ -83,28 +87,29 @@ no4 wanted length = refuse 4 (differs length wanted) (wanted ∷ [])
 unfoldable pub no5 : ℕ → ℕ → Told
 no5 wanted length = refuse 5 (differs length wanted) (wanted ∷ [])
 
--- entry 16 or more in F16: first such place, from 0
-unfoldable pub no6 : ℕ → List ℕ → Told
-no6 field input = refuse 6 (anyPlace (tooLarge field) input) (firstPlace (tooLarge field) input ∷ [])
+-- entry 16 or more in F16: row, column and share of the first such place
+unfoldable pub no6 : ℕ → Rows → List ℕ → Told
+no6 field rows input = refuse 6 (anyPlace (tooLarge field) input) (three (cellAt rows (firstPlace (tooLarge field) input)))
 
 -- mask tape too short: length wanted
 unfoldable pub no7 : ℕ → ℕ → Told
 no7 wanted length = refuse 7 (ltb length wanted) (wanted ∷ [])
 
--- nonzero tape, likewise
+-- nonzero tape too short: length wanted
 unfoldable pub no8 : ℕ → ℕ → Told
 no8 wanted length = refuse 8 (ltb length wanted) (wanted ∷ [])
-
--- step: not the exact length
-unfoldable pub no7step : ℕ → ℕ → Told
-no7step wanted length = refuse 7 (differs length wanted) (wanted ∷ [])
-
-unfoldable pub no8step : ℕ → ℕ → Told
-no8step wanted length = refuse 8 (differs length wanted) (wanted ∷ [])
 
 -- one of the nonzero draws is 0: first such place, from 0
 unfoldable pub no9 : ℕ → List ℕ → Told
 no9 field draws = refuse 9 (anyPlace (zeroDraw field) draws) (firstPlace (zeroDraw field) draws ∷ [])
+
+-- in a step, mask tape too long: length wanted
+unfoldable pub no14 : ℕ → ℕ → Told
+no14 wanted length = refuse 14 (ltb wanted length) (wanted ∷ [])
+
+-- in a step, nonzero tape too long: length wanted
+unfoldable pub no15 : ℕ → ℕ → Told
+no15 wanted length = refuse 15 (ltb wanted length) (wanted ∷ [])
 
 -- ---- how they follow each other
 
@@ -112,6 +117,6 @@ no9 field draws = refuse 9 (anyPlace (zeroDraw field) draws) (firstPlace (zeroDr
 unfoldable pub numbers : ℕ → ℕ → ℕ → Told
 numbers field shares size = no1 field or no2 shares or no3 size
 
--- 4 to 6, of what is read and of what is written
-unfoldable pub buffers : ℕ → ℕ → List ℕ → ℕ → ℕ → Told
-buffers field wanted input target length′ = no4 wanted (length input) or no5 target length′ or no6 field input
+-- 4 to 6, of what is read, and of what is written
+unfoldable pub buffers : ℕ → Rows → ℕ → List ℕ → ℕ → ℕ → Told
+buffers field rows wanted input target length′ = no4 wanted (length input) or no5 target length′ or no6 field rows input

@@ -1,11 +1,26 @@
-// What the checks of the calls have in common: 01's table of refusals, with the number and detail of each, the checks 1 to 9, and how checks
+// What the checks of the calls have in common: 01's table of refusals, with R-2's details, the checks 1 to 9, 14 and 15, and how checks
 // follow each other. Stands on field. Nothing lent is written, and bytes are looked at only where the length is right.
 ghost use mathlib.Core.Path.{_≡_};
 ghost use mathlib.Core.List.{[], _∷_};
+ghost use Prim.Native.Nat.{_+_, _/_, _%_, _<_, _≤_};
 ghost use Rattle.verdict.specs.Told.{line, when, refused, _or_};
-ghost use Rattle.verdict.specs.Refusals.{paper, reportOf, outside, firstPlace, tooLarge, zeroDraw, no1, no2, no3, no4, no5, no6, no7, no8, no7step, no8step, no9, numbers, buffers};
+ghost use Rattle.verdict.specs.Cells.{cell, three, cellAt, NonEmpty};
+ghost use Rattle.verdict.specs.Refusals.{paper, reportOf, outside, firstPlace, tooLarge, zeroDraw, no1, no2, no3, no4, no5, no6, no7, no8, no9, no14, no15, numbers, buffers};
 ghost use Rattle.verdict.specs.Code.Verdicts.{told};
 ghost use Rattle.verdict.specs.Code.Scan.{someBits};
+
+// Where an entry's byte stands: its row, its column and its share, each from 1. Share 0 says that it is of no single share.
+pub struct Cell {
+    pub row: u64,
+    pub column: u64,
+    pub share: u64,
+}
+
+// What the bytes that a call reads are, in rows of `width` entries: sharings of so many bytes each, or values, which have no shares.
+pub enum Rows {
+    Shared { shares: usize, width: usize },
+    Values { width: usize },
+}
 
 // 01's table of refusals, with each one's detail.
 pub enum Refusal {
@@ -18,18 +33,21 @@ pub enum Refusal {
     // 4 and 5: the length wanted
     Input(usize),
     Target(usize),
-    // 6: the first place
-    Entry(usize),
+    // 6: the first one
+    Entry(Cell),
     // 7 and 8: the length wanted
-    MaskTape(usize),
-    NonzeroTape(usize),
+    MaskShort(usize),
+    NonzeroShort(usize),
     // 9: the first place
     ZeroDraw(usize),
     // 10 and 11
     OffList,
     Ended,
-    // 12: j
-    ZeroPivot(u64),
+    // 12: the pivot
+    ZeroPivot(Cell),
+    // 14 and 15: the length wanted
+    MaskLong(usize),
+    NonzeroLong(usize),
 }
 
 // A refusal as numbers: 01's number, and its detail; what the detail has not is 0.
@@ -51,6 +69,17 @@ fn with_detail(number: u64, a: u64) -> Report
     }
 }
 
+fn with_cell(number: u64, c: Cell) -> Report
+    ensures { λ r. ⌜ r ≡ reportOf (line number (three c)) ⌝ }
+{
+    Report {
+        number,
+        a: c.row,
+        b: c.column,
+        c: c.share,
+    }
+}
+
 impl Refusal {
     // The paper's number of a refusal, and its detail: all that prints or hands on a refusal asks here.
     pub fn report(self) -> Report
@@ -62,13 +91,15 @@ impl Refusal {
             Refusal::Size(m) => with_detail(3, m),
             Refusal::Input(wanted) => with_detail(4, wanted as u64),
             Refusal::Target(wanted) => with_detail(5, wanted as u64),
-            Refusal::Entry(place) => with_detail(6, place as u64),
-            Refusal::MaskTape(wanted) => with_detail(7, wanted as u64),
-            Refusal::NonzeroTape(wanted) => with_detail(8, wanted as u64),
+            Refusal::Entry(c) => with_cell(6, c),
+            Refusal::MaskShort(wanted) => with_detail(7, wanted as u64),
+            Refusal::NonzeroShort(wanted) => with_detail(8, wanted as u64),
             Refusal::ZeroDraw(place) => with_detail(9, place as u64),
             Refusal::OffList => with_detail(10, 0),
             Refusal::Ended => with_detail(11, 0),
-            Refusal::ZeroPivot(j) => with_detail(12, j),
+            Refusal::ZeroPivot(c) => with_cell(12, c),
+            Refusal::MaskLong(wanted) => with_detail(14, wanted as u64),
+            Refusal::NonzeroLong(wanted) => with_detail(15, wanted as u64),
         }
     }
 }
@@ -105,7 +136,7 @@ pub fn is_outside(low: u64, high: u64, x: u64) -> bool
     x < low || high < x
 }
 
-// ---- 1 to 9
+// ---- 1 to 9, 14 and 15
 
 pub fn no1(field: u64) -> Verdict
     ensures { λ r. ⌜ told r ≡ no1 field ⌝ }
@@ -177,39 +208,70 @@ fn first_too_large(f: u64, s: &[u8]) -> usize
     i
 }
 
-pub fn no6(f: u64, input: &[u8]) -> Verdict
-    ensures { λ r. ⌜ told r ≡ no6 f (now (input .entry)) ⌝ }
+// The cell of an entry, from 0, in rows of this width, with its share.
+fn cell_in(width: usize, entry: usize, share: u64) -> Cell
+    requires { ⌜ (1 ≤ width) × (entry < 18446744073709551615) ⌝ }
+    ensures { λ r. ⌜ r ≡ cell (entry / width + 1) (entry % width + 1) share ⌝ }
+{
+    let row = (entry / width) as u64 + 1;
+    let column = (entry % width) as u64 + 1;
+    Cell { row, column, share }
+}
+
+// The cell of the byte at a place, from 0.
+fn cell_at(rows: Rows, place: usize) -> Cell
+    requires { ⌜ NonEmpty rows ⌝ }
+    requires { ⌜ place < 18446744073709551615 ⌝ }
+    ensures { λ r. ⌜ r ≡ cellAt rows place ⌝ }
+{
+    match rows {
+        Rows::Shared { shares, width } => {
+            let entry = place / shares;
+            let share = (place % shares) as u64 + 1;
+            cell_in(width, entry, share)
+        }
+        Rows::Values { width } => cell_in(width, place, 0),
+    }
+}
+
+// entry 16 or more in F16
+pub fn no6(f: u64, rows: Rows, input: &[u8]) -> Verdict
+    requires { ⌜ NonEmpty rows ⌝ }
+    ensures { λ r. ⌜ told r ≡ no6 f rows (now (input .entry)) ⌝ }
 {
     let i = first_too_large(f, input);
-    refuse_if(i < input.len(), Refusal::Entry(i))
+    if i < input.len() {
+        return Verdict::Refuse(Refusal::Entry(cell_at(rows, i)));
+    }
+    Verdict::Pass
 }
 
 // mask tape too short
 pub fn no7(wanted: usize, length: usize) -> Verdict
     ensures { λ r. ⌜ told r ≡ no7 wanted length ⌝ }
 {
-    refuse_if(length < wanted, Refusal::MaskTape(wanted))
+    refuse_if(length < wanted, Refusal::MaskShort(wanted))
 }
 
-// nonzero tape, likewise
+// nonzero tape too short
 pub fn no8(wanted: usize, length: usize) -> Verdict
     ensures { λ r. ⌜ told r ≡ no8 wanted length ⌝ }
 {
-    refuse_if(length < wanted, Refusal::NonzeroTape(wanted))
+    refuse_if(length < wanted, Refusal::NonzeroShort(wanted))
 }
 
-// step: not the exact length
-pub fn no7step(wanted: usize, length: usize) -> Verdict
-    ensures { λ r. ⌜ told r ≡ no7step wanted length ⌝ }
+// in a step, mask tape too long
+pub fn no14(wanted: usize, length: usize) -> Verdict
+    ensures { λ r. ⌜ told r ≡ no14 wanted length ⌝ }
 {
-    refuse_if(length != wanted, Refusal::MaskTape(wanted))
+    refuse_if(wanted < length, Refusal::MaskLong(wanted))
 }
 
-// likewise
-pub fn no8step(wanted: usize, length: usize) -> Verdict
-    ensures { λ r. ⌜ told r ≡ no8step wanted length ⌝ }
+// in a step, nonzero tape too long
+pub fn no15(wanted: usize, length: usize) -> Verdict
+    ensures { λ r. ⌜ told r ≡ no15 wanted length ⌝ }
 {
-    refuse_if(length != wanted, Refusal::NonzeroTape(wanted))
+    refuse_if(wanted < length, Refusal::NonzeroLong(wanted))
 }
 
 fn is_zero_draw(f: u64, x: u8) -> bool
@@ -248,13 +310,21 @@ pub fn numbers(field: u64, shares: u64, size: u64) -> Verdict
     or_else(v, no3(size))
 }
 
-// 4 to 6, of what is read and of what is written
-pub fn buffers(f: u64, wanted: usize, input: &[u8], target: usize, length: usize) -> Verdict
-    ensures { λ r. ⌜ told r ≡ buffers f wanted (now (input .entry)) target length ⌝ }
+// 4 to 6, of what is read, and of what is written
+pub fn buffers(
+    f: u64,
+    rows: Rows,
+    wanted: usize,
+    input: &[u8],
+    target: usize,
+    length: usize,
+) -> Verdict
+    requires { ⌜ NonEmpty rows ⌝ }
+    ensures { λ r. ⌜ told r ≡ buffers f rows wanted (now (input .entry)) target length ⌝ }
 {
     let v = or_else(no4(wanted, input.len()), no5(target, length));
     let Verdict::Pass = v else {
         return v;
     };
-    no6(f, input)
+    no6(f, rows, input)
 }

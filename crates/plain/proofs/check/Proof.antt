@@ -44,6 +44,9 @@ returns c = let l = c .before .before in
 add-buffers : tie.Need-add-buffers
 add-buffers c = omega (arith, size-small c)
 
+add-buffers-2 : tie.Need-add-buffers-2
+add-buffers-2 c = omega (arith, size-small c)
+
 mul-buffers : tie.Need-mul-buffers
 mul-buffers c = omega (arith, entries-small c)
 
@@ -66,6 +69,7 @@ check-spec =
     enum-told-2
     returns
     add-buffers
+    add-buffers-2
     mul-buffers
     buffers-requires
     returns-2)

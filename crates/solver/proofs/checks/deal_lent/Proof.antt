@@ -8,6 +8,9 @@ use Rattle.solver.proofs.checks.deal_lent.Tie as tie
 deal-draws-requires : tie.Need-deal-draws-requires
 deal-draws-requires c κs = search needs
 
+value-rows-requires : tie.Need-value-rows-requires
+value-rows-requires c κs = search needs
+
 entry-count-requires : tie.Need-entry-count-requires
 entry-count-requires c κs = search needs
 
@@ -25,7 +28,7 @@ or-else-requires c κs = search needs
 
 returns : tie.Need-returns
 returns c =
-    rw (← (c .before .before .before .before .before .deal-draws .ensures))
+    rw (← (c .before .before .before .before .before .before .deal-draws .ensures), ← (c .before .before .before .before .before .value-rows .ensures .0))
     (rw (← (c .before .before .before .before .entry-count .ensures .0), ← (c .before .before .before .whole-table .ensures))
     (ors (c .or-else .ensures) (c .before .before .buffers .ensures) (c .before .no7 .ensures)))
 
@@ -34,6 +37,7 @@ deal-lent-spec =
     tie.close
     (tie.spec
     deal-draws-requires
+    value-rows-requires
     entry-count-requires
     whole-table-requires
     buffers-requires

@@ -21,11 +21,14 @@ returns : tie.Need-returns
 unfolding gatherOrder
 returns c = stops-at _ _ _ _ (c .before .before .sizes .ensures) (c .enum-told2 .given .1)
 
+table-rows-requires : tie.Need-table-rows-requires
+table-rows-requires c κs = sized _ (passes _ _ (c .before .before .sizes .ensures) (c .enum-told .given .1))
+
 whole-table-requires : tie.Need-whole-table-requires
-whole-table-requires c κs = sized _ (passes _ _ (c .before .before .sizes .ensures) (c .enum-told .given .1))
+whole-table-requires c κs = sized _ (passes _ _ (c .before .before .before .sizes .ensures) (c .before .enum-told .given .1))
 
 entry-count-requires : tie.Need-entry-count-requires
-entry-count-requires c κs = sized _ (passes _ _ (c .before .before .before .sizes .ensures) (c .before .enum-told .given .1)) .most
+entry-count-requires c κs = sized _ (passes _ _ (c .before .before .before .before .sizes .ensures) (c .before .before .enum-told .given .1)) .most
 
 buffers-requires : tie.Need-buffers-requires
 buffers-requires c κs = search needs
@@ -33,8 +36,8 @@ buffers-requires c κs = search needs
 returns-2 : tie.Need-returns-2
 unfolding gatherOrder
 returns-2 c =
-    rw (← (c .before .before .whole-table .ensures), ← (c .before .entry-count .ensures .0))
-    (c .buffers .ensures ∙ goes-on _ _ _ (c .before .before .before .before .before .sizes .ensures) (c .before .before .before .enum-told .given .1))
+    rw (← (c .before .before .before .table-rows .ensures .0), ← (c .before .before .whole-table .ensures), ← (c .before .entry-count .ensures .0))
+    (c .buffers .ensures ∙ goes-on _ _ _ (c .before .before .before .before .before .before .sizes .ensures) (c .before .before .before .before .enum-told .given .1))
 
 pub gather-spec : {M : Type 1} → statement M
 gather-spec =
@@ -44,6 +47,7 @@ gather-spec =
     enum-told
     enum-told-2
     returns
+    table-rows-requires
     whole-table-requires
     entry-count-requires
     buffers-requires

@@ -37,41 +37,53 @@ with-detail-requires-5 c κs = search needs
 enum-known-self-6 : tie.Need-enum-known-self-6
 enum-known-self-6 c = search needs
 
-with-detail-requires-6 : tie.Need-with-detail-requires-6
-with-detail-requires-6 c κs = search needs
+with-cell-requires : tie.Need-with-cell-requires
+with-cell-requires c κs = search needs
 
 enum-known-self-7 : tie.Need-enum-known-self-7
 enum-known-self-7 c = search needs
 
-with-detail-requires-7 : tie.Need-with-detail-requires-7
-with-detail-requires-7 c κs = search needs
+with-detail-requires-6 : tie.Need-with-detail-requires-6
+with-detail-requires-6 c κs = search needs
 
 enum-known-self-8 : tie.Need-enum-known-self-8
 enum-known-self-8 c = search needs
 
-with-detail-requires-8 : tie.Need-with-detail-requires-8
-with-detail-requires-8 c κs = search needs
+with-detail-requires-7 : tie.Need-with-detail-requires-7
+with-detail-requires-7 c κs = search needs
 
 enum-known-self-9 : tie.Need-enum-known-self-9
 enum-known-self-9 c = search needs
 
-with-detail-requires-9 : tie.Need-with-detail-requires-9
-with-detail-requires-9 c κs = search needs
+with-detail-requires-8 : tie.Need-with-detail-requires-8
+with-detail-requires-8 c κs = search needs
 
 enum-told : tie.Need-enum-told
 enum-told c = search needs
 
-with-detail-requires-10 : tie.Need-with-detail-requires-10
-with-detail-requires-10 c κs = search needs
+with-detail-requires-9 : tie.Need-with-detail-requires-9
+with-detail-requires-9 c κs = search needs
 
 enum-told-2 : tie.Need-enum-told-2
 enum-told-2 c = search needs
 
-with-detail-requires-11 : tie.Need-with-detail-requires-11
-with-detail-requires-11 c κs = search needs
+with-detail-requires-10 : tie.Need-with-detail-requires-10
+with-detail-requires-10 c κs = search needs
 
 enum-known-self-10 : tie.Need-enum-known-self-10
 enum-known-self-10 c = search needs
+
+with-cell-requires-2 : tie.Need-with-cell-requires-2
+with-cell-requires-2 c κs = search needs
+
+enum-known-self-11 : tie.Need-enum-known-self-11
+enum-known-self-11 c = search needs
+
+with-detail-requires-11 : tie.Need-with-detail-requires-11
+with-detail-requires-11 c κs = search needs
+
+enum-known-self-12 : tie.Need-enum-known-self-12
+enum-known-self-12 c = search needs
 
 with-detail-requires-12 : tie.Need-with-detail-requires-12
 with-detail-requires-12 c κs = search needs
@@ -92,25 +104,31 @@ returns-5 : tie.Need-returns-5
 returns-5 c = rw (c .before .before .self5 .given .1, c .with-detail5 .ensures)
 
 returns-6 : tie.Need-returns-6
-returns-6 c = rw (c .before .before .self6 .given .1, c .with-detail6 .ensures)
+returns-6 c = rw (c .before .before .self6 .given .1, c .with-cell .ensures)
 
 returns-7 : tie.Need-returns-7
-returns-7 c = rw (c .before .before .self7 .given .1, c .with-detail7 .ensures)
+returns-7 c = rw (c .before .before .self7 .given .1, c .with-detail6 .ensures)
 
 returns-8 : tie.Need-returns-8
-returns-8 c = rw (c .before .before .self8 .given .1, c .with-detail8 .ensures)
+returns-8 c = rw (c .before .before .self8 .given .1, c .with-detail7 .ensures)
 
 returns-9 : tie.Need-returns-9
-returns-9 c = rw (c .before .before .self9 .given .1, c .with-detail9 .ensures)
+returns-9 c = rw (c .before .before .self9 .given .1, c .with-detail8 .ensures)
 
 returns-10 : tie.Need-returns-10
-returns-10 c = rw (c .before .enum-told .given .1, c .with-detail10 .ensures)
+returns-10 c = rw (c .before .enum-told .given .1, c .with-detail9 .ensures)
 
 returns-11 : tie.Need-returns-11
-returns-11 c = rw (c .before .enum-told2 .given .1, c .with-detail11 .ensures)
+returns-11 c = rw (c .before .enum-told2 .given .1, c .with-detail10 .ensures)
 
 returns-12 : tie.Need-returns-12
-returns-12 c = rw (c .before .before .self10 .given .1, c .with-detail12 .ensures)
+returns-12 c = rw (c .before .before .self10 .given .1, c .with-cell2 .ensures)
+
+returns-13 : tie.Need-returns-13
+returns-13 c = rw (c .before .before .self11 .given .1, c .with-detail11 .ensures)
+
+returns-14 : tie.Need-returns-14
+returns-14 c = rw (c .before .before .self12 .given .1, c .with-detail12 .ensures)
 
 pub report-spec : {M : Type 1} → statement M
 report-spec =
@@ -127,18 +145,22 @@ report-spec =
     enum-known-self-5
     with-detail-requires-5
     enum-known-self-6
-    with-detail-requires-6
+    with-cell-requires
     enum-known-self-7
-    with-detail-requires-7
+    with-detail-requires-6
     enum-known-self-8
-    with-detail-requires-8
+    with-detail-requires-7
     enum-known-self-9
-    with-detail-requires-9
+    with-detail-requires-8
     enum-told
-    with-detail-requires-10
+    with-detail-requires-9
     enum-told-2
-    with-detail-requires-11
+    with-detail-requires-10
     enum-known-self-10
+    with-cell-requires-2
+    enum-known-self-11
+    with-detail-requires-11
+    enum-known-self-12
     with-detail-requires-12
     returns
     returns-2
@@ -151,4 +173,6 @@ report-spec =
     returns-9
     returns-10
     returns-11
-    returns-12)
+    returns-12
+    returns-13
+    returns-14)

@@ -1,0 +1,59 @@
+-- R-2's step calls, refused by the definition: F16, two shares, two equations. Of the tapes' lengths and draws the first that is wrong in Step's
+-- order is told.
+-- Assumes nothing.
+use mathlib.Core.List.{List, [], _∷_, map}
+use mathlib.Core.Path.{_≡_, refl}
+use Prim.Native.Nat.{ℕ}
+use Rattle.field.specs.Field.{F16, fieldOf}
+use Rattle.sharing.specs.Rules.{sum, inversionDraws}
+use Rattle.flag.specs.Flag.{folds, foldDraws}
+use Rattle.table.specs.Layout.{cell, part, tableBytes}
+use Rattle.table.specs.Costs.{mixCost, scaleCost, scaleNonzero}
+use Rattle.course.specs.declared.Step.the-variants.{Mix, Scale}
+use Rattle.course.specs.declared.Place.{Place}
+use Rattle.course.specs.declared.Place.the-variants.{At}
+use Rattle.course.specs.StepList.{inList, costOf, revealedBy}
+use Rattle.verdict.specs.Told.{Told, passed, refused, line, _or_}
+use Rattle.verdict.specs.Cells.{cellAt}
+use Rattle.verdict.specs.Refusals.{outside, firstPlace, tooLarge, zeroDraw, no1, no2, no3, no4, no5, no6, no7, no8, no9, no14, no15, numbers}
+use Rattle.solver.specs.Refusals.{placed, ended, entries, costAt, zeroPivot, columnOf, no10, no11, no12, standing, placing, lending, stepOrder}
+use Rattle.solver.specs.Calls.{order}
+
+-- the place, the table's last share, the length of the mask tape, the nonzero bytes; and what the checks say
+pub record Row : Type 0 where
+  pub place : Place
+  pub last : ℕ
+  pub mask : ℕ
+  pub nonzero : List ℕ
+  pub told : Told
+
+abbrev row : Place → ℕ → ℕ → List ℕ → Told → Row
+row place last mask nonzero told = record { place = place; last = last; mask = mask; nonzero = nonzero; told = told }
+
+abbrev refusal : ℕ → List ℕ → Told
+refusal k d = refused (line k d)
+
+-- rows (0,1) and (1,0), with b = (5,7) where the last share is 8
+abbrev says : Row → Told
+says r =
+    stepOrder (order 16 2 2) (r .place) (4 ∷ 4 ∷ 4 ∷ 5 ∷ 10 ∷ 15 ∷ 3 ∷ 2 ∷ 10 ∷ 10 ∷ 15 ∷ r .last ∷ []) 2 (r .mask) (r .nonzero)
+
+pub rows : List Row
+rows =
+    row (At (Mix 1 2)) 16 6 [] (refusal 6 (2 ∷ 3 ∷ 2 ∷ []))
+    ∷ row (At (Mix 1 2)) 8 6 [] (refusal 7 (7 ∷ []))
+    ∷ row (At (Mix 1 2)) 8 8 [] (refusal 14 (7 ∷ []))
+    ∷ row (At (Mix 1 2)) 8 8 (186 ∷ []) (refusal 14 (7 ∷ []))
+    ∷ row (At (Mix 1 2)) 8 7 (186 ∷ []) (refusal 15 (0 ∷ []))
+    ∷ row (At (Mix 1 2)) 8 7 [] passed
+    ∷ row (At (Scale 1)) 8 9 [] (refusal 14 (8 ∷ []))
+    ∷ row (At (Scale 1)) 8 8 [] (refusal 8 (1 ∷ []))
+    ∷ row (At (Scale 1)) 8 8 (186 ∷ 186 ∷ []) (refusal 15 (1 ∷ []))
+    ∷ row (At (Scale 1)) 8 8 (16 ∷ 186 ∷ []) (refusal 15 (1 ∷ []))
+    ∷ row (At (Scale 1)) 8 8 (16 ∷ []) (refusal 9 (0 ∷ []))
+    ∷ row (At (Scale 1)) 8 8 (186 ∷ []) (refusal 12 (1 ∷ 1 ∷ 0 ∷ []))
+    ∷ []
+
+pub examples : map says rows ≡ map (λ (r : Row). r .told) rows
+unfolding rows F16 fieldOf sum inversionDraws folds foldDraws cell part tableBytes mixCost scaleCost scaleNonzero inList costOf revealedBy _or_ cellAt outside firstPlace tooLarge zeroDraw no1 no2 no3 no4 no5 no6 no7 no8 no9 no14 no15 numbers placed ended entries costAt zeroPivot columnOf no10 no11 no12 standing placing lending stepOrder
+examples = refl
