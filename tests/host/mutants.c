@@ -21,6 +21,21 @@
  *     last place            6 tells the last byte that is too large
  *     A alone               looks for such bytes in A and not in b
  *
+ * and of R-2:
+ *
+ *     column first CALL     6 tells the column before the row
+ *     offset CALL           6 tells the place from 0, as before R-2
+ *     share from 0 CALL     6 counts the shares of a table from 0
+ *     share 1 CALL          6 tells a share of values, which have none
+ *     pivot's share         12 tells share 1
+ *     j alone               12 tells j once, as before R-2
+ *     14 as 7, 15 as 8      a tape of a step that is too long is told by the number for too short
+ *     14 after 8, 14 after 15, 14 before 6, 9 before 15
+ *     longer mask           hz_step takes a mask tape that is too long
+ *     longer nonzero        and a nonzero tape
+ *     14 CALL               a call refuses a longer mask tape that it must take
+ *     15 hz_solve           and a longer nonzero tape
+ *
  * Linked with --wrap for every call. */
 #include "hostozaro.h"
 #include "model.h"
@@ -36,22 +51,54 @@ static bool fault(const char *which)
     return named != NULL && strcmp(named, which) == 0;
 }
 
+/* A fault that is named for one call, or one buffer of it. */
+static bool fault_at(const char *which, const char *at)
+{
+    char name[64];
+    snprintf(name, sizeof name, "%s %s", which, at);
+    return fault(name);
+}
+
 static void look(const char *at, const void *buffer, size_t bytes)
 {
     static volatile uint8_t seen;
     const uint8_t *byte = buffer;
-    char whole[64], past[64];
-    snprintf(whole, sizeof whole, "whole %s", at);
-    snprintf(past, sizeof past, "past %s", at);
-    for (size_t i = 0; fault(whole) && i < bytes; i++)
+    bool whole = fault_at("whole", at);
+    for (size_t i = 0; whole && i < bytes; i++)
         seen = byte[i];
-    if (fault(past))
+    if (fault_at("past", at))
         seen = byte[bytes];
     (void)seen;
 }
 
 #define BYTES(call, buffer) look(#call " " #buffer, buffer, buffer##_len)
 #define WORDS(call, buffer) look(#call " " #buffer, buffer, buffer##_len * sizeof(uint64_t))
+
+static uint64_t told(uint64_t code, uint64_t *answer, uint64_t first, uint64_t second, uint64_t third, uint64_t fourth)
+{
+    answer[0] = first;
+    answer[1] = second;
+    answer[2] = third;
+    answer[3] = fourth;
+    return code;
+}
+
+/* A refusal by 6 is told wrong. An entry has `depth` bytes: one of values, which have
+ * no shares. */
+static void spoil_cell(const char *call, uint64_t depth, uint64_t m, uint64_t *answer)
+{
+    uint64_t row = answer[1], column = answer[2], share = answer[3];
+    if (answer[0] != 6)
+        return;
+    if (fault_at("column first", call))
+        told(HZ_REFUSED, answer, 6, column, row, share);
+    if (fault_at("offset", call))
+        told(HZ_REFUSED, answer, 6, ((row - 1) * (m + 1) + (column - 1)) * depth + (share == 0 ? 0 : share - 1), 0, 0);
+    if (fault_at("share from 0", call))
+        answer[3] = share - 1;
+    if (fault_at("share 1", call))
+        answer[3] = 1;
+}
 
 uint64_t __real_hz_start(uint64_t, uint64_t, uint64_t, uint64_t *, size_t, uint64_t *, size_t);
 uint64_t __wrap_hz_start(uint64_t field, uint64_t shares, uint64_t size, uint64_t *record, size_t record_len,
@@ -80,6 +127,38 @@ uint64_t __wrap_hz_wanted(const uint64_t *record, size_t record_len, uint64_t *a
     return code;
 }
 
+/* A refusal of hz_step that R-2 is about is told wrong. */
+static void spoil_step(const uint64_t *record, size_t mask_len, size_t nonzero_len, uint64_t *answer)
+{
+    uint64_t number = answer[0], step = record[HZ_STEP], j = record[HZ_J];
+    uint64_t mask = model_mask_draws(record[HZ_FIELD], record[HZ_SHARES], record[HZ_SIZE], step, j);
+    uint64_t nonzero = model_nonzero_draws(record[HZ_SHARES], step);
+    spoil_cell("hz_step", record[HZ_SHARES], record[HZ_SIZE], answer);
+    if (fault("pivot's share") && number == 12)
+        answer[3] = 1;
+    if (fault("j alone") && number == 12)
+        answer[2] = 0;
+    if (fault("14 as 7") && number == 14)
+        answer[0] = 7;
+    if (fault("15 as 8") && number == 15)
+        answer[0] = 8;
+    if (fault("14 after 8") && number == 14 && nonzero_len < nonzero)
+        told(HZ_REFUSED, answer, 8, nonzero, 0, 0);
+    if (fault("14 after 15") && number == 14 && nonzero_len > nonzero)
+        told(HZ_REFUSED, answer, 15, nonzero, 0, 0);
+    if (fault("14 before 6") && number == 6 && mask_len > mask)
+        told(HZ_REFUSED, answer, 14, mask, 0, 0);
+}
+
+/* The first zero draw among those that the step needs, or their number. */
+static uint64_t zero_draw(const uint64_t *record, const uint8_t *nonzero)
+{
+    uint64_t wanted = model_nonzero_draws(record[HZ_SHARES], record[HZ_STEP]), at = 0;
+    while (at < wanted && nonzero[at] % record[HZ_FIELD] != 0)
+        at++;
+    return at;
+}
+
 uint64_t __real_hz_step(uint64_t *, size_t, uint8_t *, size_t, uint8_t *, size_t, const uint8_t *, size_t,
                         const uint8_t *, size_t, uint64_t *, size_t);
 uint64_t __wrap_hz_step(uint64_t *record, size_t record_len, uint8_t *table, size_t table_len, uint8_t *solution,
@@ -92,8 +171,20 @@ uint64_t __wrap_hz_step(uint64_t *record, size_t record_len, uint8_t *table, siz
     BYTES(hz_step, mask);
     BYTES(hz_step, nonzero);
     WORDS(hz_step, answer);
-    return __real_hz_step(record, record_len, table, table_len, solution, solution_len, mask, mask_len, nonzero,
-                          nonzero_len, answer, answer_len);
+    uint64_t code = __real_hz_step(record, record_len, table, table_len, solution, solution_len, mask, mask_len,
+                                   nonzero, nonzero_len, answer, answer_len);
+    if (code != HZ_REFUSED)
+        return code;
+    if (fault("longer mask") && answer[0] == 14)
+        return __real_hz_step(record, record_len, table, table_len, solution, solution_len, mask, answer[1], nonzero,
+                              nonzero_len, answer, answer_len);
+    if (fault("longer nonzero") && answer[0] == 15)
+        return __real_hz_step(record, record_len, table, table_len, solution, solution_len, mask, mask_len, nonzero,
+                              answer[1], answer, answer_len);
+    if (fault("9 before 15") && answer[0] == 15 && zero_draw(record, nonzero) < answer[1])
+        return told(HZ_REFUSED, answer, 9, zero_draw(record, nonzero), 0, 0);
+    spoil_step(record, mask_len, nonzero_len, answer);
+    return HZ_REFUSED;
 }
 
 uint64_t __real_hz_solve(uint64_t, uint64_t, uint64_t, uint8_t *, size_t, uint8_t *, size_t, const uint8_t *, size_t,
@@ -107,8 +198,16 @@ uint64_t __wrap_hz_solve(uint64_t field, uint64_t shares, uint64_t size, uint8_t
     BYTES(hz_solve, mask);
     BYTES(hz_solve, nonzero);
     WORDS(hz_solve, answer);
-    return __real_hz_solve(field, shares, size, table, table_len, solution, solution_len, mask, mask_len, nonzero,
-                           nonzero_len, answer, answer_len);
+    uint64_t code = __real_hz_solve(field, shares, size, table, table_len, solution, solution_len, mask, mask_len,
+                                    nonzero, nonzero_len, answer, answer_len);
+    bool accepted = code == HZ_SOLVED || code == HZ_STOPPED;
+    if (fault("14 hz_solve") && accepted && mask_len > model_full_mask_draws(field, shares, size))
+        return told(HZ_REFUSED, answer, 14, model_full_mask_draws(field, shares, size), 0, 0);
+    if (fault("15 hz_solve") && accepted && nonzero_len > size * (shares - 1))
+        return told(HZ_REFUSED, answer, 15, size * (shares - 1), 0, 0);
+    if (code == HZ_REFUSED)
+        spoil_cell("hz_solve", shares, size, answer);
+    return code;
 }
 
 /* Makes T[j,j] other than 0, by a row below; false where there is none. */
@@ -153,14 +252,6 @@ static uint64_t eliminate(uint64_t field, uint64_t m, uint8_t *t, uint8_t *x)
     return 0;
 }
 
-static uint64_t told(uint64_t code, uint64_t *answer, uint64_t first, uint64_t second)
-{
-    answer[0] = first;
-    answer[1] = second;
-    answer[2] = answer[3] = 0;
-    return code;
-}
-
 static uint64_t by_own_engine(uint64_t field, uint64_t m, const uint8_t *values, uint8_t *solution, uint64_t *answer)
 {
     uint8_t work[96 * 97];
@@ -168,7 +259,7 @@ static uint64_t by_own_engine(uint64_t field, uint64_t m, const uint8_t *values,
     uint64_t column = eliminate(field, m, work, solution);
     if (column != 0)
         memset(solution, 0, m);
-    return told(column == 0 ? HZ_SOLVED : HZ_STOPPED, answer, column, 0);
+    return told(column == 0 ? HZ_SOLVED : HZ_STOPPED, answer, column, 0, 0, 0);
 }
 
 /* The answer of an accepted call becomes a wrong one. */
@@ -183,12 +274,18 @@ static uint64_t spoil_answer(uint64_t code, uint64_t field, uint64_t m, const ui
     if (fault("leaves a byte") && code == HZ_STOPPED)
         solution[m - 1] = 1;
     if (fault("b fits") && b_is_0)
-        return told(HZ_SOLVED, answer, 0, 0);
+        return told(HZ_SOLVED, answer, 0, 0, 0, 0);
     if (fault("counts") && code == HZ_SOLVED)
         answer[3] = 1;
     if (fault("spoils values"))
         ((uint8_t *)values)[m * (m + 1) - 1] ^= 1;
     return code;
+}
+
+/* A refusal by 6 that tells this place of the values. */
+static uint64_t told_place(uint64_t m, size_t at, uint64_t *answer)
+{
+    return told(HZ_REFUSED, answer, 6, at / (m + 1) + 1, at % (m + 1) + 1, 0);
 }
 
 /* A refusal becomes a wrong one, or none. */
@@ -205,17 +302,18 @@ static uint64_t spoil_refusal(uint64_t field, uint64_t m, const uint8_t *values,
     if (fault("refuses late") && answer[0] == 6)
         memset(solution, 0, m);
     if (fault("3 before 1") && answer[0] == 1 && (m < 1 || m > 96))
-        return told(HZ_REFUSED, answer, 3, m);
+        return told(HZ_REFUSED, answer, 3, m, 0, 0);
     if (fault("5 before 4") && answer[0] == 4 && solution_len != m)
-        return told(HZ_REFUSED, answer, 5, m);
+        return told(HZ_REFUSED, answer, 5, m, 0, 0);
     if (fault("6 before 5") && answer[0] == 5 && first != wanted)
-        return told(HZ_REFUSED, answer, 6, first);
+        return told_place(m, first, answer);
     if (fault("details") && (answer[0] == 4 || answer[0] == 5))
-        return told(HZ_REFUSED, answer, answer[0], answer[0] == 4 ? m : wanted);
+        return told(HZ_REFUSED, answer, answer[0], answer[0] == 4 ? m : wanted, 0, 0);
     if (fault("last place") && answer[0] == 6)
-        return told(HZ_REFUSED, answer, 6, last);
+        return told_place(m, last, answer);
     if (fault("A alone") && answer[0] == 6 && first == last && first % (m + 1) == m)
-        return told(HZ_SOLVED, answer, 0, 0);
+        return told(HZ_SOLVED, answer, 0, 0, 0, 0);
+    spoil_cell("hz_plain", 1, m, answer);
     return HZ_REFUSED;
 }
 
@@ -244,7 +342,13 @@ uint64_t __wrap_hz_deal(uint64_t field, uint64_t shares, uint64_t size, const ui
     BYTES(hz_deal, table);
     BYTES(hz_deal, mask);
     WORDS(hz_deal, answer);
-    return __real_hz_deal(field, shares, size, values, values_len, table, table_len, mask, mask_len, answer, answer_len);
+    uint64_t code = __real_hz_deal(field, shares, size, values, values_len, table, table_len, mask, mask_len, answer,
+                                   answer_len);
+    if (fault("14 hz_deal") && code == HZ_FILLED && mask_len > values_len * (shares - 1))
+        return told(HZ_REFUSED, answer, 14, values_len * (shares - 1), 0, 0);
+    if (code == HZ_REFUSED)
+        spoil_cell("hz_deal", 1, size, answer);
+    return code;
 }
 
 uint64_t __real_hz_gather(uint64_t, uint64_t, uint64_t, const uint8_t *, size_t, uint8_t *, size_t, uint64_t *, size_t);
@@ -254,7 +358,10 @@ uint64_t __wrap_hz_gather(uint64_t field, uint64_t shares, uint64_t size, const 
     BYTES(hz_gather, table);
     BYTES(hz_gather, values);
     WORDS(hz_gather, answer);
-    return __real_hz_gather(field, shares, size, table, table_len, values, values_len, answer, answer_len);
+    uint64_t code = __real_hz_gather(field, shares, size, table, table_len, values, values_len, answer, answer_len);
+    if (code == HZ_REFUSED)
+        spoil_cell("hz_gather", shares, size, answer);
+    return code;
 }
 
 uint64_t __real_hz_counts(uint64_t, uint64_t, uint64_t, uint64_t *, size_t);
