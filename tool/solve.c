@@ -75,6 +75,54 @@ static void say_holds(const char *which, const char *typed)
         fprintf(stderr, "%s is %s", which, shown(typed, strlen(typed)));
 }
 
+/* The cell that a refusal tells. Share 0 is no single share. */
+static void say_cell(void)
+{
+    fprintf(stderr, "row %" PRIu64 ", column %" PRIu64, answer[1], answer[2]);
+    if (answer[3] != 0)
+        fprintf(stderr, ", share %" PRIu64, answer[3]);
+}
+
+/* A refusal of something that this program lent, which is a fault of its own. */
+static void say_lent(void)
+{
+    switch (answer[0]) {
+    case 4:
+        fprintf(stderr, "the table or the values are of wrong length; that wanted is %" PRIu64, answer[1]);
+        break;
+    case 5:
+        fprintf(stderr, "the solution or the target is of wrong length; that wanted is %" PRIu64, answer[1]);
+        break;
+    case 6:
+        say_cell();
+        fprintf(stderr, " is no element of this field, 0 to %" PRIu64, field - 1);
+        break;
+    case 7:
+    case 8:
+    case 14:
+    case 15:
+        fprintf(stderr, "the %s tape is too %s; the length wanted is %" PRIu64,
+                answer[0] == 7 || answer[0] == 14 ? "mask" : "nonzero", answer[0] < 14 ? "short" : "long", answer[1]);
+        break;
+    case 9:
+        fprintf(stderr, "nonzero draw %" PRIu64 ", counted from 0, is 0", answer[1]);
+        break;
+    case 10:
+        fputs("the record is at no step of this size", stderr);
+        break;
+    case 11:
+        fputs("the record has ended", stderr);
+        break;
+    case 12:
+        say_cell();
+        fputs(" is a pivot of 0", stderr);
+        break;
+    default:
+        fprintf(stderr, "detail %" PRIu64, answer[1]);
+    }
+    fputs(", which never should be\n", stderr);
+}
+
 /* A refusal of the library. */
 static _Noreturn void refuse(void)
 {
@@ -92,8 +140,8 @@ static _Noreturn void refuse(void)
         fprintf(stderr, "row 1 has %" PRIu64 " numbers, so the size is %" PRIu64 "; it may be 1 to 96\n", answer[1] + 1,
                 answer[1]);
         break;
-    default: /* of something that this program lent */
-        fprintf(stderr, "detail %" PRIu64 ", which never should be\n", answer[1]);
+    default:
+        say_lent();
     }
     exit(REFUSED);
 }

@@ -1,0 +1,83 @@
+/* Spoils what ./solve lends on its way to the library, for tests/solve/run: ./solve
+ * must say in words what the library refuses. WRONG in the environment says what:
+ *
+ *     value               the last value is 16, as hz_deal and hz_plain read it
+ *     share               the last byte of the table is 16, for hz_solve and hz_step
+ *     table, solution     a step's table or solution lacks a byte
+ *     short, long         a step's mask tape lacks a byte, or has one too many
+ *     none, nonzero       the same of its nonzero tape
+ *     draw                a step's first nonzero draw is 0
+ *     step, ended         the record is at step 9, or done
+ *     pivot               the first step is Scale(1) instead
+ *
+ * Linked with --wrap for the four calls. */
+#include "hostozaro.h"
+
+#include <stdbool.h>
+#include <stdlib.h>
+#include <string.h>
+
+static bool wrong(const char *which)
+{
+    const char *named = getenv("WRONG");
+    return named != NULL && strcmp(named, which) == 0;
+}
+
+uint64_t __real_hz_deal(uint64_t, uint64_t, uint64_t, const uint8_t *, size_t, uint8_t *, size_t, const uint8_t *,
+                        size_t, uint64_t *, size_t);
+uint64_t __wrap_hz_deal(uint64_t field, uint64_t shares, uint64_t size, const uint8_t *values, size_t values_len,
+                        uint8_t *table, size_t table_len, const uint8_t *mask, size_t mask_len, uint64_t *answer,
+                        size_t answer_len)
+{
+    if (wrong("value"))
+        ((uint8_t *)values)[values_len - 1] = 16;
+    return __real_hz_deal(field, shares, size, values, values_len, table, table_len, mask, mask_len, answer, answer_len);
+}
+
+uint64_t __real_hz_plain(uint64_t, uint64_t, const uint8_t *, size_t, uint8_t *, size_t, uint64_t *, size_t);
+uint64_t __wrap_hz_plain(uint64_t field, uint64_t size, const uint8_t *values, size_t values_len, uint8_t *solution,
+                         size_t solution_len, uint64_t *answer, size_t answer_len)
+{
+    if (wrong("value"))
+        ((uint8_t *)values)[values_len - 1] = 16;
+    return __real_hz_plain(field, size, values, values_len, solution, solution_len, answer, answer_len);
+}
+
+uint64_t __real_hz_solve(uint64_t, uint64_t, uint64_t, uint8_t *, size_t, uint8_t *, size_t, const uint8_t *, size_t,
+                         const uint8_t *, size_t, uint64_t *, size_t);
+uint64_t __wrap_hz_solve(uint64_t field, uint64_t shares, uint64_t size, uint8_t *table, size_t table_len,
+                         uint8_t *solution, size_t solution_len, const uint8_t *mask, size_t mask_len,
+                         const uint8_t *nonzero, size_t nonzero_len, uint64_t *answer, size_t answer_len)
+{
+    if (wrong("share"))
+        table[table_len - 1] = 16;
+    return __real_hz_solve(field, shares, size, table, table_len, solution, solution_len, mask, mask_len, nonzero,
+                           nonzero_len, answer, answer_len);
+}
+
+uint64_t __real_hz_step(uint64_t *, size_t, uint8_t *, size_t, uint8_t *, size_t, const uint8_t *, size_t,
+                        const uint8_t *, size_t, uint64_t *, size_t);
+uint64_t __wrap_hz_step(uint64_t *record, size_t record_len, uint8_t *table, size_t table_len, uint8_t *solution,
+                        size_t solution_len, const uint8_t *mask, size_t mask_len, const uint8_t *nonzero,
+                        size_t nonzero_len, uint64_t *answer, size_t answer_len)
+{
+    static const uint8_t draws[8] = {1, 2, 3, 4, 5, 6, 7, 8}; /* as many as a Scale(1) of two equations in two shares */
+    if (wrong("share"))
+        table[table_len - 1] = 16;
+    if (wrong("pivot")) {
+        record[HZ_STEP] = HZ_SCALE;
+        record[HZ_K] = 0;
+        return __real_hz_step(record, record_len, table, table_len, solution, solution_len, draws, 8, draws, 1, answer,
+                              answer_len);
+    }
+    if (wrong("step") || wrong("ended")) {
+        record[HZ_STEP] = wrong("step") ? 9 : HZ_AT_DONE;
+        record[HZ_J] = record[HZ_K] = 0;
+    }
+    if (wrong("draw") && nonzero_len > 0)
+        ((uint8_t *)nonzero)[0] = 0;
+    mask_len = wrong("short") ? mask_len - 1 : wrong("long") ? mask_len + 1 : mask_len;
+    nonzero_len = wrong("none") ? 0 : wrong("nonzero") ? nonzero_len + 1 : nonzero_len;
+    return __real_hz_step(record, record_len, table, table_len - wrong("table"), solution,
+                          solution_len - wrong("solution"), mask, mask_len, nonzero, nonzero_len, answer, answer_len);
+}
