@@ -30,12 +30,19 @@ static uint8_t *tape(size_t len, int nonzero)
     return bytes;
 }
 
-/* Ends the program unless the call answered what it must. */
+/* Ends the program unless the call answered what it must. Refusals 6 and 12 tell a
+ * cell, the others one number. */
 static void must(uint64_t code, uint64_t wanted)
 {
     if (code == wanted)
         return;
-    fprintf(stderr, "code %" PRIu64 ", answer %" PRIu64 " %" PRIu64 "\n", code, answer[0], answer[1]);
+    if (code != HZ_REFUSED)
+        fprintf(stderr, "answered %" PRIu64 "\n", code);
+    else if (answer[0] == 6 || answer[0] == 12)
+        fprintf(stderr, "refused %" PRIu64 ": row %" PRIu64 ", column %" PRIu64 ", share %" PRIu64 "\n", answer[0],
+                answer[1], answer[2], answer[3]);
+    else
+        fprintf(stderr, "refused %" PRIu64 ": %" PRIu64 "\n", answer[0], answer[1]);
     exit(1);
 }
 
