@@ -1,4 +1,5 @@
--- R-1's systems, solved by the definition: F16, then F256. Where a pivot's place is 0 a row from below is exchanged into it.
+-- R-1's systems, solved by the definition: F16, then F256. Where a pivot's place is 0 a row from below is exchanged into it. And a value that
+-- is refused.
 -- Assumes nothing.
 use mathlib.Core.Path.{_≡_, refl}
 use Prim.Native.Nat.{ℕ}
@@ -11,6 +12,10 @@ use Rattle.sharing.specs.Lists.{joined}
 use Rattle.table.specs.Layout.{cell, part, put}
 use Rattle.table.specs.Steps.{liftTurn, lift}
 use Rattle.algebra.specs.Linear.{Answer, solved, stopped}
+use Rattle.verdict.specs.Told.{refused, line, _or_}
+use Rattle.verdict.specs.Cells.{cellAt}
+use Rattle.verdict.specs.Refusals.{outside, firstPlace, tooLarge, no1, no3, no4, no5, no6, buffers}
+use Rattle.plain.specs.Calls.{plainOrder}
 use Rattle.plain.specs.Elimination.{at, seek, exchange, scale, clear, clearBelow, column, eliminate, unknowns, Solution, conclude, solves}
 
 -- field, size, values, and the bytes that stand in the solution before
@@ -46,3 +51,8 @@ systems =
 pub examples : map (λ r. let s = r .given in solves (s .field) (s .size) (s .values) (s .found)) systems ≡ map (λ r. r .ending) systems
 unfolding systems polynomials times left inverseBelow inv F16 F256 fieldOf run scaled joined cell part put liftTurn lift at seek exchange scale clear clearBelow column eliminate unknowns conclude solves
 examples = refl
+
+-- R-2: the last of the values is 16
+pub last-cell : plainOrder 16 2 (0 ∷ 1 ∷ 5 ∷ 1 ∷ 0 ∷ 16 ∷ []) 2 ≡ refused (line 6 (2 ∷ 3 ∷ 0 ∷ []))
+unfolding F16 fieldOf _or_ cellAt outside firstPlace tooLarge no1 no3 no4 no5 no6 buffers plainOrder
+last-cell = refl

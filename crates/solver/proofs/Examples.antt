@@ -1,5 +1,5 @@
--- R-2's step calls, refused by the definition: F16, two shares, two equations. Of the tapes' lengths and draws the first that is wrong in Step's
--- order is told.
+-- R-2's calls, refused by the definitions: F16, two shares, two equations. Of what a step is lent the first that is wrong in its order is told;
+-- of a table and of values the cell.
 -- Assumes nothing.
 use mathlib.Core.List.{List, [], _∷_, map}
 use mathlib.Core.Path.{_≡_, refl}
@@ -15,8 +15,8 @@ use Rattle.course.specs.declared.Place.the-variants.{At}
 use Rattle.course.specs.StepList.{inList, costOf, revealedBy}
 use Rattle.verdict.specs.Told.{Told, passed, refused, line, _or_}
 use Rattle.verdict.specs.Cells.{cellAt}
-use Rattle.verdict.specs.Refusals.{outside, firstPlace, tooLarge, zeroDraw, no1, no2, no3, no4, no5, no6, no7, no8, no9, no14, no15, numbers}
-use Rattle.solver.specs.Refusals.{placed, ended, entries, costAt, zeroPivot, columnOf, no10, no11, no12, standing, placing, lending, stepOrder}
+use Rattle.verdict.specs.Refusals.{outside, firstPlace, tooLarge, zeroDraw, no1, no2, no3, no4, no5, no6, no7, no8, no9, no14, no15, numbers, buffers}
+use Rattle.solver.specs.Refusals.{placed, ended, entries, costAt, zeroPivot, columnOf, no10, no11, no12, dealOrder, gatherOrder, solveOrder, standing, placing, lending, stepOrder}
 use Rattle.solver.specs.Calls.{order}
 
 -- the place, the table's last share, the length of the mask tape, the nonzero bytes; and what the checks say
@@ -34,9 +34,11 @@ abbrev refusal : ℕ → List ℕ → Told
 refusal k d = refused (line k d)
 
 -- rows (0,1) and (1,0), with b = (5,7) where the last share is 8
+abbrev table : ℕ → List ℕ
+table last = 4 ∷ 4 ∷ 4 ∷ 5 ∷ 10 ∷ 15 ∷ 3 ∷ 2 ∷ 10 ∷ 10 ∷ 15 ∷ last ∷ []
+
 abbrev says : Row → Told
-says r =
-    stepOrder (order 16 2 2) (r .place) (4 ∷ 4 ∷ 4 ∷ 5 ∷ 10 ∷ 15 ∷ 3 ∷ 2 ∷ 10 ∷ 10 ∷ 15 ∷ r .last ∷ []) 2 (r .mask) (r .nonzero)
+says r = stepOrder (order 16 2 2) (r .place) (table (r .last)) 2 (r .mask) (r .nonzero)
 
 pub rows : List Row
 rows =
@@ -57,3 +59,9 @@ rows =
 pub examples : map says rows ≡ map (λ (r : Row). r .told) rows
 unfolding rows F16 fieldOf sum inversionDraws folds foldDraws cell part tableBytes mixCost scaleCost scaleNonzero inList costOf revealedBy _or_ cellAt outside firstPlace tooLarge zeroDraw no1 no2 no3 no4 no5 no6 no7 no8 no9 no14 no15 numbers placed ended entries costAt zeroPivot columnOf no10 no11 no12 standing placing lending stepOrder
 examples = refl
+
+-- the last byte is 16: of the table that Gather and Solve read, and of Deal's values
+pub last-cells : gatherOrder (order 16 2 2) (table 16) 6 ∷ solveOrder (order 16 2 2) (table 16) 2 0 [] ∷ dealOrder (order 16 2 2) (0 ∷ 1 ∷ 5 ∷ 1 ∷ 0 ∷ 16 ∷ []) 12 0 ∷ []
+    ≡ refusal 6 (2 ∷ 3 ∷ 2 ∷ []) ∷ refusal 6 (2 ∷ 3 ∷ 2 ∷ []) ∷ refusal 6 (2 ∷ 3 ∷ 0 ∷ []) ∷ []
+unfolding F16 fieldOf tableBytes _or_ cellAt outside firstPlace tooLarge no1 no2 no3 no4 no5 no6 numbers buffers entries gatherOrder solveOrder dealOrder
+last-cells = refl
