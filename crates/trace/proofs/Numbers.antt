@@ -18,7 +18,7 @@ use Rattle.verdict.specs.Told.{Told, passed, refused, Line, refuse, _or_}
 use Rattle.verdict.specs.Refusals.{differs, outside, anyPlace, tooLarge, zeroDraw, no1, no2, no3, no4, no5, no6, no7, no8, no9, no14, no15, numbers, buffers}
 use Rattle.solver.specs.Refusals.{wholeTable, tableRows, valueRows, placed, ended, entries, dealDraws, maskAt, nonzeroAt, revealedAt, zeroPivot, no10, no11, no12, sizes, dealOrder, gatherOrder, tapes, solveOrder, standing, wantedOrder, placing, lending, stepOrder}
 use Rattle.plain.specs.Calls.{plainOrder}
-use Rattle.trace.specs.Trace.{oneOf}
+use Rattle.trace.specs.Numbers.{oneOf, Among, Gives}
 
 no-refusal : {l : Line} → passed ≡ refused l → ⊥
 no-refusal e = let z : _≡_ {A = ℕ} 0 1 = cc in omega arith
@@ -90,10 +90,6 @@ fifteen wanted long = numbered 15 (ltb wanted long) _
 
 -- ---- an order gives the numbers of its checks
 
--- what holds of every refusal that an order gives
-pub record Gives (P : Line → Type 0) (v : Told) : Type 0 where
-  pub only : (l : Line) → v ≡ refused l → P l
-
 module _ {P : Line → Type 0} where
   by-first : (a : Told) {b : Told} → Gives P a → Gives P b → Gives P (a or b)
   unfolding _or_
@@ -103,10 +99,6 @@ module _ {P : Line → Type 0} where
   infixl 20 _then_
   _then_ : {a b : Told} → Gives P a → Gives P b → Gives P (a or b)
   _then_ {a} g h = by-first a g h
-
--- its number is one of these
-unfoldable pub Among : List ℕ → Line → Type 0
-Among ns l = oneOf (l .number) ns ≡ true
 
 in-list : (ns : List ℕ) {k : ℕ} {v : Told} → oneOf k ns ≡ true → Numbered k v → Gives (Among ns) v
 unfolding Among
@@ -198,24 +190,24 @@ module _ (o : Order) (p : Place) (t : List ℕ) (solution mask : ℕ) (nonzero :
       ∷ []
 
   -- what it is refused by is what the check of that number says
-  abbrev Own : Line → Type 0
-  Own l = getD checks (l .number) passed ≡ refused l
+  abbrev pub AtNumber : Line → Type 0
+  AtNumber l = getD checks (l .number) passed ≡ refused l
 
-  own : {k : ℕ} {v : Told} → getD checks k passed ≡ v → Numbered k v → Gives Own v
-  own s n = record { only = λ l e. ap (λ (i : ℕ). getD checks i passed) (n .number l e) ∙ s ∙ e }
+  here : {k : ℕ} {v : Told} → getD checks k passed ≡ v → Numbered k v → Gives AtNumber v
+  here s n = record { only = λ l e. ap (λ (i : ℕ). getD checks i passed) (n .number l e) ∙ s ∙ e }
 
-  by-number : Gives Own (stepOrder o p t solution mask nonzero)
+  pub by-number : Gives AtNumber (stepOrder o p t solution mask nonzero)
   unfolding stepOrder numbers placing standing lending
   by-number =
-      own refl (one (o .field)) then own refl (two (o .shares)) then own refl (three (o .size))
-      then (own refl (four (wholeTable o) (length t)) then own refl (five (o .size) solution) then (own refl (ten (o .size) p) then own refl (eleven p))
-      then (own refl (six (o .field) (tableRows o) t)
-      then (own refl (seven (maskAt o p) mask)
-      then own refl (fourteen (maskAt o p) mask)
-      then own refl (eight (nonzeroAt o p) (length nonzero))
-      then own refl (fifteen (nonzeroAt o p) (length nonzero))
-      then own refl (nine (o .field) nonzero)
-      then own refl (twelve o p t))))
+      here refl (one (o .field)) then here refl (two (o .shares)) then here refl (three (o .size))
+      then (here refl (four (wholeTable o) (length t)) then here refl (five (o .size) solution) then (here refl (ten (o .size) p) then here refl (eleven p))
+      then (here refl (six (o .field) (tableRows o) t)
+      then (here refl (seven (maskAt o p) mask)
+      then here refl (fourteen (maskAt o p) mask)
+      then here refl (eight (nonzeroAt o p) (length nonzero))
+      then here refl (fifteen (nonzeroAt o p) (length nonzero))
+      then here refl (nine (o .field) nonzero)
+      then here refl (twelve o p t))))
 
   -- a number whose check passes is not given, wherever it stands in the order
   pub not-given : (k : ℕ) → getD checks k passed ≡ passed → (l : Line) → stepOrder o p t solution mask nonzero ≡ refused l → l .number ≡ k → ⊥

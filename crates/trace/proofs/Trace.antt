@@ -21,8 +21,9 @@ use Rattle.verdict.specs.Refusals.{outside}
 use Rattle.solver.specs.Refusals.{placed, no10, no12, solveOrder}
 use Rattle.verdict.specs.Calls.{call}
 use Rattle.solver.specs.Calls.{solveDoes, solveCall}
-use Rattle.trace.specs.Trace.{Beside, Host, begin, hostAfter, drive, orderIn, Refused, Accepted, countsIn, Counted, Begins, Agrees, oneOf, Only, possible, Never}
+use Rattle.trace.specs.Trace.{Beside, Host, begin, hostAfter, drive, orderIn, Refused, Accepted, countsIn, Counted, Begins, Agrees, Only, possible, Never}
 use Rattle.verdict.proofs.Passes.{unmet, one-passes, two-passes, three-passes}
+use Rattle.trace.specs.Numbers.{oneOf, Among}
 use Rattle.trace.proofs.Numbers.{checks, Each, _also_, not-given, given}
 use Rattle.trace.proofs.Call.{each-call, refusal}
 use Rattle.walk.proofs.Walked.{walk-append, walk-stopped}
@@ -39,6 +40,7 @@ never h c k e l g =
 
 -- what is given is one of some numbers, where the check of each other number passes
 only : (h : Host) (c : Beside) (ns : List ℕ) → Each (λ k. oneOf k ns ≡ true) (checksOf h c) → Only ns h c
+unfolding Among
 only h c ns each l g =
     given (orderIn h) (h .progress .place) (h .table) (length (c .solution)) (length (c .mask)) (c .nonzero) (λ k. oneOf k ns ≡ true) each l
     (refusal h c l g)
@@ -152,9 +154,9 @@ module _ (o : Order) (sized : Sizes o) (t y : List ℕ) (cs : List Beside) where
 
   -- so refusals 10 and 12 are not met
   pub never-off-list : (c : Beside) → Never 10 d c
-  unfolding oneOf
+  unfolding oneOf Among
   never-off-list c l g e = let z = rw e at (refused-by c l g) in false≢true z
 
   pub never-zero-pivot : (c : Beside) → Never 12 d c
-  unfolding oneOf
+  unfolding oneOf Among
   never-zero-pivot c l g e = let z = rw e at (refused-by c l g) in false≢true z

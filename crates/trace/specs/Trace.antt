@@ -2,11 +2,10 @@
 -- lends beside them, and refused ones among them. Its tapes need not be one piece: what counts is the draws that it lends to accepted calls.
 -- Here is what it has after such calls, and what is then true of it; proofs/Trace.antt and proofs/Progress.antt prove it.
 -- Assumes nothing.
-use mathlib.Core.Bool.{Bool, true, false, _||_}
+use mathlib.Core.Bool.{true}
 use mathlib.Core.List.{List, [], _∷_, _++_}
 use mathlib.Core.Path.{_≡_}
 use Prim.Native.Nat.{ℕ, zero, suc, _+_, _-_, _≤_, _<_}
-use lib.Dec.{eqb}
 use lib.ListN.{length}
 use Rattle.field.specs.Field.{fieldOf}
 use Rattle.sharing.specs.Rules.{drawAt}
@@ -26,6 +25,7 @@ use Rattle.verdict.specs.Told.{Line}
 use Rattle.solver.specs.Refusals.{wholeTable}
 use Rattle.verdict.specs.Calls.{Says, refuses, gives, Outcome}
 use Rattle.solver.specs.Calls.{Stride, tells, Lent, lent, orderOf, stepCall}
+use Rattle.trace.specs.Numbers.{Among}
 
 -- what a call is lent beside the record and the table
 pub record Beside : Type 0 where
@@ -151,12 +151,8 @@ Agrees h r (Stopped j) = (r .left .table ≡ h .table) × (r .says ≡ gives (E.
 Agrees h r Done = (r .left .table ≡ h .table) × (r .says ≡ gives (E.Solved (countsIn h)))
 
 -- 4. A call that is refused has one of these numbers; or it has not the number k
-unfoldable pub oneOf : ℕ → List ℕ → Bool
-oneOf k [] = false
-oneOf k (n ∷ ns) = eqb k n || oneOf k ns
-
 abbrev pub Only : List ℕ → Host → Beside → Type 0
-Only ns h c = (l : Line) → called h c .says ≡ refuses l → oneOf (l .number) ns ≡ true
+Only ns h c = (l : Line) → called h c .says ≡ refuses l → Among ns l
 
 -- those by which a call of such a run can be refused, in Step's order: for what it lends, or because the record has ended
 abbrev pub possible : List ℕ
