@@ -1,7 +1,7 @@
 // The step call on a lent record and the step call by value, side by side. Stands on lent and solver, and on show for the words.
 // Two systems of F16 with two shares and two unknowns are stepped through, one to its solution and one to its stop, with refused calls between;
-// then calls on records that a host made up. Each line has the answer, the record after the call, the table (an entry is its two shares) and the
-// solution, of the lent form, and whether the form by value came to the same.
+// then a table with a byte that is no element, and calls on records that a host made up. Each line has the answer, the record after the call,
+// the table (an entry is its two shares) and the solution, of the lent form, and whether the form by value came to the same.
 use course::Place;
 use course::Progress;
 use course::Step;
@@ -251,6 +251,31 @@ fn stopped(p: Progress) {
     call(b, 28, 28, 0, 0);
 }
 
+// The host's table with 16 for its last share, which is printed as 0.
+fn spoilt(h: Host) -> Host {
+    let p = h.record;
+    let x = h.solution;
+    let mut t = h.table;
+    t[11] = 16;
+    Host {
+        record: p,
+        table: t,
+        solution: x,
+    }
+}
+
+// The first system with a byte that is no element.
+fn large(p: Progress) {
+    let b = begin(p, b"\x00\x01\x05\x01\x00\x07");
+    let l = b.lent;
+    let v = b.value;
+    let c = Both {
+        lent: spoilt(l),
+        value: spoilt(v),
+    };
+    call(c, 0, 7, 0, 0);
+}
+
 // One call on a record that a host made up, with the first system's table.
 fn made_up(field: u64, shares: u64, size: u64, place: Place, e: usize, f: usize) {
     let p = Progress {
@@ -281,5 +306,6 @@ fn main() {
     io::write_all(1, b"\n");
     stopped(p);
     io::write_all(1, b"\n");
+    large(p);
     strange();
 }
