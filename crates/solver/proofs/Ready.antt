@@ -28,22 +28,16 @@ use Rattle.course.specs.StepList.{Sizes, inList, costOf, maskCost, nonzeroCost,
 use Rattle.course.proofs.Within.{within}
 use Rattle.walk.proofs.Acted.{pivot}
 use Rattle.verdict.specs.Told.{passed, _or_}
-use Rattle.verdict.specs.Refusals.{no1, no2, no3, no4, no5, no6, no7, no8, no9, no14, no15, numbers, buffers}
+use Rattle.verdict.specs.Refusals.{no4, no5, no6, no7, no8, no9, no14, no15, buffers}
 use Rattle.solver.specs.Refusals.{placed, ended, entries, wholeTable, tableRows, valueRows, dealDraws, costAt, maskAt, nonzeroAt, zeroPivot, no10, no11, no12, sizes, dealOrder, gatherOrder, tapes, solveOrder, standing, wantedOrder, placing, lending, stepOrder}
 use Rattle.verdict.proofs.Told.{left, right, not-then}
-use Rattle.verdict.proofs.Passes.{one-says, two-says, three-says, same, enough, six-says, nine-says, Buffers, buffered}
+use Rattle.verdict.proofs.Passes.{numbered, same, enough, six-says, nine-says, Buffers, buffered}
 
 -- 1 to 3 passed
 pub sized : (o : Order) → sizes o ≡ passed → Sizes o
-unfolding numbers
 sized o e =
-    let a = no1 (o .field) in
-    let b = no2 (o .shares) in
-    let d = no3 (o .size) in
-    let two : a or b ≡ passed = left (a or b) d e in
-    let n = two-says (o .shares) (right a b two) in
-    let m = three-says (o .size) (right (a or b) d e) in
-    record { field = one-says (o .field) (left a b two); two = n .0; four = n .1; some = m .0; most = m .1 }
+    let z = numbered (o .field) (o .shares) (o .size) e in
+    record { field = z .field; two = z .two; four = z .four; some = z .some; most = z .most }
 
 -- the table is as long as its entries' sharings
 whole-entries : (o : Order) → wholeTable o ≡ entries (o .size) * o .shares

@@ -14,13 +14,14 @@ use Rattle.course.specs.declared.Place.the-variants.{At}
 use Rattle.course.specs.declared.Order.{Order}
 use Rattle.course.specs.StepList.{Sizes, inList, maskCost, nonzeroCost, revealedBy, fullMask, fullNonzero}
 use Rattle.verdict.specs.Told.{passed}
-use Rattle.verdict.specs.Refusals.{no4, no5, no7, no8, no14, no15, numbers}
+use Rattle.verdict.specs.Refusals.{no4, no5, no7, no8, no14, no15}
 use Rattle.solver.specs.Refusals.{placed, ended, entries, wholeTable, tableRows, costAt, zeroPivot, no10, no11, no12, sizes, gatherOrder, tapes, solveOrder, standing, placing, lending, stepOrder}
-use Rattle.verdict.proofs.Passes.{unmet, one-passes, two-passes, three-passes, right-length, long-enough, six-passes, nine-passes, buffers-pass, _and_}
+use Rattle.verdict.proofs.Passes.{unmet, numbers-pass, right-length, long-enough, six-passes, nine-passes, buffers-pass, _and_}
 
 pub sizes-pass : (o : Order) → Sizes o → sizes o ≡ passed
-unfolding numbers
-sizes-pass o z = one-passes (o .field) (z .field) and two-passes (o .shares) (z .two) (z .four) and three-passes (o .size) (z .some) (z .most)
+sizes-pass o z =
+    numbers-pass (o .field) (o .shares) (o .size)
+    (record { field = z .field; two = z .two; four = z .four; some = z .some; most = z .most })
 
 module _ (o : Order) (z : Sizes o) (t : List ℕ) (whole : length t ≡ wholeTable o) (elements : Below (fieldOf (o .field) .q) t) where
   pub gather-passes : (target : ℕ) → target ≡ entries (o .size) → gatherOrder o t target ≡ passed

@@ -18,9 +18,14 @@ use Rattle.sharing.specs.Lists.{Below}
 use Rattle.sharing.specs.Bounds.{mostRows}
 use Rattle.verdict.specs.declared.Rows.{Rows}
 use Rattle.verdict.specs.Told.{Told, passed, refuse, _or_}
-use Rattle.verdict.specs.Refusals.{differs, outside, firstPlace, anyPlace, tooLarge, zeroDraw, no1, no2, no3, no4, no5, no6, no9, buffers}
+use Rattle.verdict.specs.Refusals.{differs, outside, firstPlace, anyPlace, tooLarge, zeroDraw, no1, no2, no3, no4, no5, no6, no9, numbers, buffers}
 use Rattle.verdict.proofs.Told.{left, right, not-then}
 use Rattle.verdict.proofs.Scan.{before-first}
+
+infixl 20 _and_
+pub _and_ : {a b : Told} → a ≡ passed → b ≡ passed → a or b ≡ passed
+unfolding _or_
+x and y = rw (x, y)
 
 pub unmet : (k : ℕ) {test : Bool} (d : List ℕ) → test ≡ false → refuse k test d ≡ passed
 unmet k d e = rw e
@@ -45,11 +50,11 @@ neither true t e = absurd (false≢true (sym e))
 neither false t e = (refl, e)
 
 module _ (low high x : ℕ) where
-  inside : outside low high x ≡ false → (low ≤ x) × (x ≤ high)
+  pub inside : outside low high x ≡ false → (low ≤ x) × (x ≤ high)
   unfolding outside
   inside e = let w = neither (ltb x low) (ltb high x) e in (ltb-false x low (w .0), ltb-false high x (w .1))
 
-  within : low ≤ x → x ≤ high → outside low high x ≡ false
+  pub within : low ≤ x → x ≤ high → outside low high x ≡ false
   unfolding outside
   within a b = rw (le-ltb x low a, le-ltb high x b)
 
@@ -68,6 +73,26 @@ three-says m e = inside 1 mostRows m (not-then _ _ e)
 pub three-passes : (m : ℕ) → 1 ≤ m → m ≤ mostRows → no3 m ≡ passed
 unfolding no3
 three-passes m a b = unmet 3 _ (within 1 mostRows m a b)
+
+module _ (f n m : ℕ) where
+  pub record Numbers : Type 0 where
+    pub field : (f ≡ 16) ⊎ (f ≡ 256)
+    pub two : 2 ≤ n
+    pub four : n ≤ 4
+    pub some : 1 ≤ m
+    pub most : m ≤ mostRows
+
+  pub numbered : numbers f n m ≡ passed → Numbers
+  unfolding numbers
+  numbered e =
+      let b : no1 f or no2 n ≡ passed = left _ _ e in
+      let shares = two-says n (right _ _ b) in
+      let size = three-says m (right _ _ e) in
+      record { field = one-says f (left _ _ b); two = shares .0; four = shares .1; some = size .0; most = size .1 }
+
+  pub numbers-pass : Numbers → numbers f n m ≡ passed
+  unfolding numbers
+  numbers-pass z = one-passes f (z .field) and two-passes n (z .two) (z .four) and three-passes m (z .some) (z .most)
 
 -- ---- 4, 5, 7, 8, 14 and 15: a length that must be the one wanted, or may be more, or less
 
@@ -127,11 +152,6 @@ unfolding no9 zeroDraw
 nine-says f ds e k h = eqb-false _ _ (every-place (zeroDraw f) 9 ds _ e k h)
 
 -- ---- 4 to 6 together
-
-infixl 20 _and_
-pub _and_ : {a b : Told} → a ≡ passed → b ≡ passed → a or b ≡ passed
-unfolding _or_
-x and y = rw (x, y)
 
 module _ (f wanted : ℕ) (input : List ℕ) (target long : ℕ) where
   pub record Buffers : Type 0 where
