@@ -8,25 +8,17 @@
  *
  * NAME is what messages call the input. ./solve --help tells the rest. */
 #define _DEFAULT_SOURCE /* for explicit_bzero and getrandom */
-#include "hostozaro.h"
+#include "typed.h"
 
-#include <ctype.h>
 #include <errno.h>
 #include <inttypes.h>
-#include <stdarg.h>
-#include <stdbool.h>
 #include <stdio.h>
 #include <stdlib.h>
 #include <string.h>
 #include <sys/random.h>
 #include <unistd.h>
 
-enum { MOST = 96, MOST_SHARES = 4 }; /* 01's largest size and number of shares */
-enum { ANSWERED = 0, REFUSED = 1, BAD_INPUT = 2, TROUBLE = 3, WRONG = 4 }; /* exit status */
-
-static const char *field_typed, *shares_typed, *input_name;
-static uint64_t field, shares, size;
-static uint64_t answer[HZ_ANSWER_WORDS];
+static const char *field_typed, *shares_typed;
 
 /* All that tells of the system, in one place, so that it can be wiped. */
 static struct {
@@ -34,69 +26,14 @@ static struct {
     uint8_t table[MOST * (MOST + 1) * MOST_SHARES];
     uint8_t x[MOST];
     uint8_t plain_x[MOST]; /* the plain engine's, to compare */
-    char word[32];
-    char input[4096]; /* standard input's buffer */
 } secret;
 
-static void wipe(void)
-{
-    explicit_bzero(&secret, sizeof secret);
-}
-
-/* ---- What is said of wrong input ---- */
-
-/* A text as it can be shown in a line: not too long, and without what a terminal
- * would act on. */
-static const char *shown(const char *text, size_t length)
-{
-    enum { MOST_SHOWN = 24 };
-    static char made[4 * MOST_SHOWN + 4];
-    size_t end = 0;
-    for (size_t i = 0; i < length && i < MOST_SHOWN; i++)
-        end += (size_t)sprintf(made + end, isprint((unsigned char)text[i]) ? "%c" : "\\x%02x", (unsigned char)text[i]);
-    strcpy(made + end, length > MOST_SHOWN ? "..." : "");
-    return made;
-}
-
-static _Noreturn void trouble(const char *what)
-{
-    fprintf(stderr, "solve: %s: %s\n", what, strerror(errno));
-    exit(TROUBLE);
-}
-
-/* What one of the first two words holds. */
-static void say_holds(const char *which, const char *typed)
-{
-    if (typed[strspn(typed, " \t\r\n")] == '\0')
-        fprintf(stderr, "%s is blank, which counts as 0", which);
-    else if (typed[strspn(typed, "0123456789")] != '\0')
-        fprintf(stderr, "%s is '%s', which is no number written in digits alone", which, shown(typed, strlen(typed)));
-    else
-        fprintf(stderr, "%s is %s", which, shown(typed, strlen(typed)));
-}
-
-/* The cell that a refusal tells. Share 0 is no single share. */
-static void say_cell(void)
-{
-    fprintf(stderr, "row %" PRIu64 ", column %" PRIu64, answer[1], answer[2]);
-    if (answer[3] != 0)
-        fprintf(stderr, ", share %" PRIu64, answer[3]);
-}
+/* ---- What the library refuses ---- */
 
 /* A refusal of something that this program lent, which is a fault of its own. */
 static void say_lent(void)
 {
     switch (answer[0]) {
-    case 4:
-        fprintf(stderr, "the table or the values are of wrong length; that wanted is %" PRIu64, answer[1]);
-        break;
-    case 5:
-        fprintf(stderr, "the solution or the target is of wrong length; that wanted is %" PRIu64, answer[1]);
-        break;
-    case 6:
-        say_cell();
-        fprintf(stderr, " is no element of this field, 0 to %" PRIu64, field - 1);
-        break;
     case 7:
     case 8:
     case 14:
@@ -114,47 +51,31 @@ static void say_lent(void)
         fputs("the record has ended", stderr);
         break;
     case 12:
-        say_cell();
+        say_cell(answer[1], answer[2], answer[3]);
         fputs(" is a pivot of 0", stderr);
         break;
     default:
-        fprintf(stderr, "detail %" PRIu64, answer[1]);
+        say_buffer();
     }
-    fputs(", which never should be\n", stderr);
+    fputs(", which never should be", stderr);
 }
 
-/* A refusal of the library. */
-static _Noreturn void refuse(void)
+void say_refused(void)
 {
-    fprintf(stderr, "solve: refused %" PRIu64 ": ", answer[0]);
     switch (answer[0]) {
     case 1:
-        say_holds("FIELD", field_typed);
-        fputs("; it may be 16 or 256\n", stderr);
+        say_word("FIELD", field_typed);
         break;
     case 2:
-        say_holds("SHARES", shares_typed);
-        fputs("; it may be 2, 3 or 4\n", stderr);
+        say_word("SHARES", shares_typed);
         break;
     case 3:
-        fprintf(stderr, "row 1 has %" PRIu64 " numbers, so the size is %" PRIu64 "; it may be 1 to 96\n", answer[1] + 1,
-                answer[1]);
+        fprintf(stderr, "row 1 has %" PRIu64 " numbers, so the size is %" PRIu64, answer[1] + 1, answer[1]);
+        say_may_be();
         break;
     default:
         say_lent();
     }
-    exit(REFUSED);
-}
-
-/* Ends the program unless the call answered as it should. */
-static void must(uint64_t code, uint64_t wanted)
-{
-    if (code == wanted)
-        return;
-    if (code == HZ_REFUSED)
-        refuse();
-    fprintf(stderr, "solve: the library answered %" PRIu64 ", which never should be\n", code);
-    exit(WRONG);
 }
 
 /* What a full solve of this size takes: answer has it, unless the library refuses
@@ -164,57 +85,15 @@ static void ask_counts(uint64_t m)
     must(hz_counts(field, shares, m, answer, HZ_ANSWER_WORDS), HZ_COUNTS);
 }
 
-/* The number that FIELD or SHARES holds, 0 where it is blank. What is no number
- * becomes one that the library refuses. */
-static uint64_t number_typed(const char *typed)
-{
-    if (typed[strspn(typed, " \t\r\n")] == '\0')
-        return 0;
-    return typed[strspn(typed, "0123456789")] == '\0' ? strtoull(typed, NULL, 10) : UINT64_MAX;
-}
-
 /* ---- Reading the system ---- */
 
-static uint64_t line = 1; /* of the input */
-static uint64_t row = 1;  /* that is being read */
-static uint64_t column;   /* that was read last in this row, 0 for none */
-static uint64_t width;    /* numbers to a row, known after row 1 */
-
-__attribute__((format(printf, 3, 4)))
-static _Noreturn void bad(uint64_t at_line, uint64_t at_column, const char *what, ...)
-{
-    va_list rest;
-    va_start(rest, what);
-    fprintf(stderr, "solve: %s, line %" PRIu64 ": row %" PRIu64 ", column %" PRIu64 ": ", input_name, at_line, row, at_column);
-    vfprintf(stderr, what, rest);
-    fputc('\n', stderr);
-    va_end(rest);
-    exit(BAD_INPUT);
-}
+static uint64_t width; /* numbers to a row, known after row 1 */
 
 #define ROWS "; row 1 has %" PRIu64 " numbers, that of b among them, so the number of rows is %" PRIu64
 
-/* The element that the word stands for. */
-static uint8_t element(size_t length)
+static void take_number(size_t length, bool last)
 {
-    const char *word = secret.word, *as_typed = shown(word, length);
-    bool hex = word[0] == '0' && (word[1] == 'x' || word[1] == 'X');
-    const char *digits = hex ? word + 2 : word;
-    size_t count = strspn(digits, hex ? "0123456789abcdefABCDEF" : "0123456789");
-    if (length >= sizeof secret.word)
-        bad(line, column, "'%s' is too long for a number", as_typed);
-    if (word[0] == '-' && isdigit((unsigned char)word[1]))
-        bad(line, column, "%s is negative; an element of this field is 0 to %" PRIu64, as_typed, field - 1);
-    if (count == 0 || digits + count != word + length)
-        bad(line, column, "'%s' is no number, decimal or 0x..", as_typed);
-    uint64_t number = strtoull(digits, NULL, hex ? 16 : 10);
-    if (number >= field)
-        bad(line, column, "%s is too large; an element of this field is 0 to %" PRIu64, as_typed, field - 1);
-    return (uint8_t)number;
-}
-
-static void take_word(size_t length)
-{
+    (void)last; /* there are no shares */
     column++;
     if (row > 1 && row == width)
         bad(line, column, "one row too many" ROWS, width, width - 1);
@@ -244,43 +123,11 @@ static void end_row(void)
 /* Reads all of standard input into the values, and sets the size. */
 static void read_system(void)
 {
-    size_t length = 0; /* of the word so far */
-    uint64_t last = 0; /* the line of the last row */
-    int c;
-    setvbuf(stdin, secret.input, _IOFBF, sizeof secret.input);
-    do {
-        c = getchar();
-        if (c == '#')
-            while (c != '\n' && c != EOF)
-                c = getchar();
-        if (c == EOF && ferror(stdin)) {
-            fprintf(stderr, "solve: %s can't be read: %s\n", input_name, strerror(errno));
-            exit(BAD_INPUT);
-        }
-        if (c != EOF && !isspace(c)) {
-            if (length < sizeof secret.word - 1) {
-                secret.word[length] = (char)c;
-                secret.word[length + 1] = '\0';
-            }
-            length++;
-            continue;
-        }
-        if (length > 0)
-            take_word(length);
-        length = 0;
-        if (column > 0)
-            last = line;
-        if (c == '\n' || c == EOF)
-            end_row();
-        if (c == '\n')
-            line++;
-    } while (c != EOF);
-    if (row == 1) {
-        fprintf(stderr, "solve: %s has no rows; m rows of m+1 numbers are wanted\n", input_name);
-        exit(BAD_INPUT);
-    }
+    uint64_t last_line = read_rows(false, take_number, end_row);
+    if (row == 1)
+        bad_input(" has no rows; m rows of m+1 numbers are wanted");
     if (row < width)
-        bad(last, 1, "missing below this line" ROWS, width, width - 1);
+        bad(last_line, 1, "missing below this line" ROWS, width, width - 1);
     size = width - 1;
 }
 
@@ -395,18 +242,10 @@ static ending by_steps(void)
     return so_far;
 }
 
-/* The plain engine works in a copy of the values on the stack, and leaves it there.
- * This goes over that place. */
-__attribute__((noinline)) static void wipe_stack(void)
-{
-    uint8_t all_below[1 << 16];
-    explicit_bzero(all_below, sizeof all_below);
-}
-
 static ending in_the_open(uint8_t *x)
 {
     uint64_t code = hz_plain(field, size, secret.values, size * (size + 1), x, size, answer, HZ_ANSWER_WORDS);
-    wipe_stack();
+    wipe_stack(); /* the plain engine works in a copy of the values there, and leaves it */
     if (code == HZ_STOPPED)
         return (ending){.stopped = answer[0]};
     must(code, HZ_SOLVED);
@@ -496,10 +335,9 @@ int main(int argc, char **argv)
 {
     if (argc != 4 && argc != 5)
         return BAD_INPUT;
-    atexit(wipe);
+    begin("solve", argv[3], &secret, sizeof secret);
     field_typed = argv[1];
     shares_typed = argv[2];
-    input_name = argv[3];
     bool masked = strcmp(shares_typed, "--plain") != 0;
     field = number_typed(field_typed);
     shares = masked ? number_typed(shares_typed) : 2; /* none are dealt then, but hz_counts asks for a number */
