@@ -5,9 +5,10 @@
  * whose sum (exclusive or) is the entry. It solves the whole system in one call,
  * or one small step to a call, so that a host can do other work in between. It
  * also deals plain values into shares and gathers shares back. For the laboratory
- * there is an unmasked twin, hz_plain, that solves plain values in the open. The
- * library makes no random numbers: the host lends them, on two tapes. The inputs
- * of a call determine its answer and every lent byte afterwards, refusals included.
+ * there is an unmasked twin, hz_plain, that solves plain values in the open. Two
+ * sites can swap a shared table with its numbers as one record. The library makes
+ * no random numbers: the host lends them, on two tapes. The inputs of a call
+ * determine its answer and every lent byte afterwards, refusals included.
  *
  *
  * WORDS
@@ -47,6 +48,23 @@
  * part that is needed. hz_step wants exactly the draws of its step, and hz_wanted
  * tells beforehand how many these are.
  * hz_counts tells how many draws a full solve needs. A deal needs m(m+1)(n-1).
+ *
+ *
+ * EXCHANGE RECORD
+ *
+ * A system as two sites swap it: five tagged fields, each once and in this order.
+ * A tagged field is a tag of one byte, the length of its body in two bytes, high
+ * byte first, and its body:
+ *
+ *     offset   tag   length     body
+ *     0        1     2          field: two bytes, high byte first
+ *     5        2     1          shares
+ *     9        3     1          size
+ *     13       4     m(m+1)n    the table; its first byte is at HZ_TABLE_AT
+ *     after it 255   0          none: the end
+ *
+ * In all HZ_BESIDE_TABLE + m(m+1)n bytes. It holds the shares as they stand: who
+ * has the record has the system.
  *
  *
  * POINTERS
@@ -92,6 +110,12 @@
  *    12  hz_step at Scale: the pivot is 0       j, j, 0: row, column, share
  *    14  hz_step: mask tape too long            length wanted
  *    15  hz_step: nonzero tape too long         length wanted
+ *    16  hz_read: a tagged field has not the    its first offset
+ *        tag that is due
+ *    17  hz_read: the input ends before or      its first offset
+ *        inside a tagged field, or the length
+ *        in it does not suit its tag
+ *    18  hz_read: bytes after the end           the first one's offset
  *
  * 13 is none of a call's: desk, which prints the counts of an order, gives it.
  * Where several apply, the first in the call's own order is given.
@@ -110,10 +134,13 @@
 extern "C" {
 #endif
 
-#define HZ_VERSION "0.11" /* ./install takes it from here for pkg-config */
+#define HZ_VERSION "0.12" /* ./install takes it from here for pkg-config */
 
 #define HZ_RECORD_WORDS 6
 #define HZ_ANSWER_WORDS 4
+
+#define HZ_TABLE_AT     16 /* where the table begins in an exchange record */
+#define HZ_BESIDE_TABLE 19 /* the bytes of such a record beside its table */
 
 /* What a call returns. */
 #define HZ_REFUSED    0 /* answer: number, detail; of 6 and 12: number, row, column, share */
@@ -122,10 +149,11 @@ extern "C" {
 #define HZ_STOPPED    3 /* step, plain: answer: j.   solve: answer: j, steps, mask draws, nonzero draws */
 #define HZ_DONE       4 /* step: the last one. answer: x_1 */
 #define HZ_SOLVED     5 /* solve: answer: steps, mask draws, nonzero draws.   plain: all 0 */
-#define HZ_FILLED     6 /* deal, gather */
+#define HZ_FILLED     6 /* deal, gather, write */
 #define HZ_FRESH      7 /* start */
 #define HZ_COUNTS     8 /* counts: answer: steps, mask draws, nonzero draws */
 #define HZ_WANTED     9 /* wanted: answer: mask draws, nonzero draws */
+#define HZ_SYSTEM    10 /* read: answer: field, shares, size, length of the table */
 #define HZ_BAD_WORDS 99 /* record or answer of wrong length: nothing was written */
 
 /* The words of a record, and what its word HZ_STEP may say. */
@@ -261,6 +289,28 @@ uint64_t hz_gather(uint64_t field, uint64_t shares, uint64_t size,
  * Refusals, in order: 1, 2, 3. */
 uint64_t hz_counts(uint64_t field, uint64_t shares, uint64_t size,
                    uint64_t *answer, size_t answer_len);
+
+/* Writes the exchange record of a system into target.
+ *
+ * HZ_FILLED: every byte of target is written. The table is only read.
+ * Refusals, in order: 1, 2, 3, 4 (table m(m+1)n), 5 (target, exactly
+ *     HZ_BESIDE_TABLE + m(m+1)n), 6 (table). */
+uint64_t hz_write(uint64_t field, uint64_t shares, uint64_t size,
+                  const uint8_t *table, size_t table_len,
+                  uint8_t *target, size_t target_len,
+                  uint64_t *answer, size_t answer_len);
+
+/* Reads an exchange record. The table is not copied: it is the stretch of
+ * `length` bytes of input that begins at input + HZ_TABLE_AT.
+ *
+ * HZ_SYSTEM: answer: field, shares, size, length. Input is only read, and is, byte
+ *     for byte, what hz_write makes of these numbers and this table.
+ * Refusals, in order: 16 and 17, of one tagged field after the other: 17 (the input
+ *     ends before it), 16, 17 (the input ends inside its length, the length does not
+ *     suit its tag, or the input ends inside its body; any length suits tag 4); 18;
+ *     and then, of what they hold, 1, 2, 3, 4 (table m(m+1)n), 6 (table). */
+uint64_t hz_read(const uint8_t *input, size_t input_len,
+                 uint64_t *answer, size_t answer_len);
 
 #ifdef __cplusplus
 }

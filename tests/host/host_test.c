@@ -21,6 +21,7 @@
 #define MAX_TABLE (96 * 97 * 4)
 #define MAX_MASK 3778608 /* F256, n = 4, m = 96 */
 #define MAX_NONZERO (96 * 3)
+#define MAX_TOLD 65535 /* the longest body that an exchange record can tell of */
 #define SPARE 4096 /* how much longer than right one fault makes a buffer */
 #define ROOM (4 * SPARE)
 #define GUARD 32
@@ -73,11 +74,13 @@ typedef struct {
     uint8_t *page; /* the library's copy ends here */
 } buffer;
 
-static buffer table = {.name = "table", .capacity = MAX_TABLE + ROOM, .width = 1};
+static buffer table = {.name = "table", .capacity = MAX_TOLD + ROOM, .width = 1};
 static buffer solution = {.name = "solution", .capacity = 96 + ROOM, .width = 1};
 static buffer values = {.name = "values", .capacity = MAX_TABLE + ROOM, .width = 1};
 static buffer mask = {.name = "mask", .capacity = MAX_MASK + ROOM, .width = 1};
 static buffer nonzero = {.name = "nonzero", .capacity = MAX_NONZERO + ROOM, .width = 1};
+static buffer target = {.name = "target", .capacity = HZ_BESIDE_TABLE + MAX_TABLE + ROOM, .width = 1};
+static buffer input = {.name = "input", .capacity = HZ_BESIDE_TABLE + MAX_TOLD + ROOM, .width = 1};
 static buffer record = {.name = "record", .capacity = 16, .width = 8};
 static buffer answer = {.name = "answer", .capacity = 16, .width = 8};
 
@@ -135,7 +138,7 @@ static void stretch(buffer *b, size_t len)
 static uint64_t field, shares, size; /* what the next call is given */
 static uint64_t calls, calls_in_case;
 
-enum { START, WANTED, STEP, SOLVE, PLAIN, DEAL, GATHER, COUNTS, KINDS };
+enum { START, WANTED, STEP, SOLVE, PLAIN, DEAL, GATHER, COUNTS, WRITE, READ, KINDS };
 
 static const struct {
     const char *name;
@@ -150,6 +153,8 @@ static const struct {
     [DEAL] = {"hz_deal", {&values, &table, &mask, &answer}, {&values, &mask}},
     [GATHER] = {"hz_gather", {&table, &values, &answer}, {&table}},
     [COUNTS] = {"hz_counts", {&answer}, {NULL}},
+    [WRITE] = {"hz_write", {&table, &target, &answer}, {&table}},
+    [READ] = {"hz_read", {&input, &answer}, {&input}},
 };
 
 static int last_kind; /* of the last call */
@@ -164,6 +169,9 @@ static void difference(void)
             printf("%s%" PRIu64, i == 0 ? " record " : ",", words(&record)[i]);
     else if (last_kind == PLAIN)
         printf(" field %" PRIu64 " size %" PRIu64, field, size);
+    else if (last_kind == READ)
+        for (size_t i = 0; i < input.len && i < HZ_TABLE_AT; i++)
+            printf("%s%02x", i == 0 ? " input " : "", input.lent[i]);
     else
         printf(" field %" PRIu64 " shares %" PRIu64 " size %" PRIu64, field, shares, size);
     for (buffer *const *b = kinds[last_kind].lent; *b != NULL; b++) {
@@ -239,6 +247,10 @@ static void same_bytes(const buffer *b, const uint8_t *wanted, const char *whose
                                WORDS(copy, answer));                                                                  \
         case GATHER:                                                                                                  \
             return side##_gather(field, shares, size, BYTES(copy, table), BYTES(copy, values), WORDS(copy, answer)); \
+        case WRITE:                                                                                                   \
+            return side##_write(field, shares, size, BYTES(copy, table), BYTES(copy, target), WORDS(copy, answer));  \
+        case READ:                                                                                                    \
+            return side##_read(BYTES(copy, input), WORDS(copy, answer));                                             \
         default:                                                                                                      \
             return side##_counts(field, shares, size, WORDS(copy, answer));                                          \
         }                                                                                                             \
@@ -286,13 +298,14 @@ static void expect(uint64_t number, uint64_t first, uint64_t second, uint64_t th
     memcpy(refusal, told, sizeof refusal);
 }
 
-static void call_expecting(int kind)
+static uint64_t call_expecting(int kind)
 {
     uint64_t code = call(kind);
     bool accepted = code != HZ_REFUSED && code != HZ_BAD_WORDS;
     demand(accepted == (refusal[0] == 0), "refused for nothing, or accepted with a fault");
     demand(accepted || memcmp(answer.lent, refusal, sizeof refusal) == 0,
            "not refused by the first fault and its details");
+    return code;
 }
 
 /* ---- Systems ---- */
@@ -405,6 +418,27 @@ static void make_table(void)
             entry[0] ^= entry[s];
         }
     }
+}
+
+/* A target as long as the table's exchange record. */
+static void make_target(void)
+{
+    target.len = HZ_BESIDE_TABLE + table.len;
+    fill(target.lent, target.len);
+}
+
+/* The exchange record of the numbers and the table as they are, right or not. */
+static void make_input(void)
+{
+    uint8_t front[HZ_TABLE_AT] = {
+        1, 0, 2, (uint8_t)(field >> 8), (uint8_t)field,     2, 0, 1, (uint8_t)shares, 3, 0, 1, (uint8_t)size,
+        4, (uint8_t)(table.len >> 8),   (uint8_t)table.len,
+    };
+    static const uint8_t end[] = {255, 0, 0};
+    input.len = HZ_BESIDE_TABLE + table.len;
+    memcpy(input.lent, front, sizeof front);
+    memcpy(input.lent + HZ_TABLE_AT, table.lent, table.len);
+    memcpy(input.lent + HZ_TABLE_AT + table.len, end, sizeof end);
 }
 
 /* ---- Tapes ---- */
@@ -532,7 +566,7 @@ static void plant_large(buffer *b, size_t at)
 static void spoil(void)
 {
     size_t which;
-    switch (below(14)) {
+    switch (below(17)) {
     case 0:
         stretch(&table, wrong_length(table.len));
         break;
@@ -568,6 +602,15 @@ static void spoil(void)
         record.len = one_in(2) ? record.len : below(9);
         answer.len = one_in(2) ? answer.len : below(9);
         break;
+    case 13:
+        stretch(&target, wrong_length(target.len));
+        break;
+    case 14:
+        stretch(&input, wrong_length(input.len));
+        break;
+    case 15:
+        damage(&input);
+        break;
     default:
         switch (below(3)) {
         case 0:
@@ -593,8 +636,8 @@ static void case_numbers(void)
     field = one_in(2) ? (one_in(2) ? 16 : 256) : absurd();
     shares = one_in(2) ? 2 + below(3) : absurd();
     size = one_in(2) ? 1 + below(2) : absurd();
-    buffer *all[] = {&table, &solution, &values, &mask, &nonzero};
-    for (int i = 0; i < 5; i++) {
+    buffer *all[] = {&table, &solution, &values, &mask, &nonzero, &target, &input};
+    for (int i = 0; i < 7; i++) {
         all[i]->len = below(60);
         fill(all[i]->lent, all[i]->len);
     }
@@ -618,6 +661,8 @@ static void case_spoilt(void)
         fill(solution.lent, size);
         make_mask(kind == DEAL ? values.len * (shares - 1) : full_mask());
         make_nonzero(full_nonzero());
+        make_target();
+        make_input();
         fresh_words();
         uint64_t step = below(7), j = 1 + below(size), k = 1 + below(size);
         bool pair = step == HZ_MIX || step == HZ_CLEAR;
@@ -886,9 +931,38 @@ static uint64_t plain_answer(void)
     return code;
 }
 
-/* Every field, number of shares and size: start, counts, deal and gather; the plain
- * call once for each field and size; and a solve of each size, of the small ones
- * for every field and number of shares. */
+/* hz_read of the input as it is. Where nothing else is expected, it tells field, shares
+ * and size as they are; and hz_write makes the same bytes of what was read, the table
+ * being a stretch of the input. */
+static void read_expecting(void)
+{
+    uint64_t code = call_expecting(READ);
+    if (refusal[0] != 0)
+        return;
+    uint64_t told[] = {field, shares, size, input.len - HZ_BESIDE_TABLE};
+    demand(code == HZ_SYSTEM && memcmp(answer.lent, told, sizeof told) == 0, "another system than the record's");
+    table.len = words(&answer)[3];
+    memcpy(table.lent, input.lent + HZ_TABLE_AT, table.len);
+    make_target();
+    demand(call(WRITE) == HZ_FILLED, "not written");
+    demand(memcmp(target.lent, input.lent, input.len) == 0, "other bytes written than read");
+}
+
+/* Write, then read what was written, which is as the header's picture has it. */
+static void write_and_read(void)
+{
+    make_input();
+    make_target();
+    fresh_words();
+    demand(call(WRITE) == HZ_FILLED, "not written");
+    demand(memcmp(target.lent, input.lent, input.len) == 0, "another record than the header's picture");
+    expect(0, 0, 0, 0);
+    read_expecting();
+}
+
+/* Every field, number of shares and size: start, counts, deal and gather, write and read;
+ * the plain call once for each field and size; and a solve of each size, of the small
+ * ones for every field and number of shares. */
 #define ALL_SIZES (2 * 3 * 96)
 static void case_of_sizes(uint64_t i)
 {
@@ -899,6 +973,7 @@ static void case_of_sizes(uint64_t i)
     call(START);
     call(COUNTS);
     deal_and_gather();
+    write_and_read();
     if (shares == 2)
         plain_answer();
     if (size <= 12 || size % 6 == i % 6)
@@ -922,6 +997,7 @@ static void call_with(uint64_t given, int kind)
     uint64_t kept = shares;
     shares = given;
     words(&record)[HZ_SHARES] = given;
+    make_input(); /* hz_read finds the number there */
     expect(2, given, 0, 0);
     call_expecting(kind);
     shares = kept;
@@ -948,6 +1024,9 @@ static void case_of_refused_shares(uint64_t i)
     call_with(given, COUNTS);
     call_with(given, GATHER);
     call_with(given, SOLVE);
+    make_target();
+    call_with(given, WRITE);
+    call_with(given, READ);
     for (uint64_t step = HZ_MIX; step <= HZ_AT_DONE; step++) {
         bool pair = step == HZ_MIX || step == HZ_CLEAR;
         set_record(step, step == HZ_AT_DONE ? 0 : 1, pair ? 2 : 0);
@@ -991,6 +1070,7 @@ static const struct {
     {SOLVE, &table, 4, 4},  {SOLVE, &solution, 5, 5}, {SOLVE, &mask, 7, 0},  {SOLVE, &nonzero, 8, 0},
     {DEAL, &values, 4, 4},  {DEAL, &table, 5, 5},     {DEAL, &mask, 7, 0},
     {GATHER, &table, 4, 4}, {GATHER, &values, 5, 5},  {PLAIN, &values, 4, 4}, {PLAIN, &solution, 5, 5},
+    {WRITE, &table, 4, 4},  {WRITE, &target, 5, 5},
 };
 #define LENGTHS (sizeof lengths / sizeof lengths[0])
 
@@ -1009,6 +1089,8 @@ static void make_right(int kind, uint64_t step)
 {
     make_values(RANDOM);
     make_table();
+    make_target();
+    make_input();
     solution.len = size;
     fill(solution.lent, size);
     fresh_words();
@@ -1069,11 +1151,13 @@ static void all_wrong_from(size_t which, uint64_t step)
         lengths[i].lent->more = 0;
 }
 
-/* Nothing is there at all: numbers and words are refused before any length. */
+/* Nothing is there at all: numbers and words are refused before any length. Only what
+ * hz_read is lent is there, since any length of it is right. */
 static void nothing_there(void)
 {
-    buffer *all[] = {&table, &solution, &values, &mask, &nonzero};
-    for (int i = 0; i < 5; i++)
+    make_right(READ, HZ_CHECK);
+    buffer *all[] = {&table, &solution, &values, &mask, &nonzero, &target};
+    for (int i = 0; i < 6; i++)
         claim(all[i], absurd(), 0);
     fresh_words();
     set_record(HZ_CHECK, 1, 0);
@@ -1083,7 +1167,7 @@ static void nothing_there(void)
         *given[number - 1] = 97;
         words(&record)[number - 1] = 97;
         for (int kind = 0; kind < KINDS; kind++)
-            if (kind != PLAIN || number != 2) /* hz_plain is given no shares */
+            if (kind != READ && (kind != PLAIN || number != 2)) /* hz_read is given none, hz_plain no shares */
                 demand(call(kind) == HZ_REFUSED && words(&answer)[0] == number, "a wrong number is not refused");
         *given[number - 1] = kept;
         words(&record)[number - 1] = kept;
@@ -1100,7 +1184,7 @@ static void nothing_there(void)
             demand(call(kind) == HZ_BAD_WORDS, "wrong words of record are not told");
             claim(&record, HZ_RECORD_WORDS, HZ_RECORD_WORDS);
         }
-    for (int i = 0; i < 5; i++)
+    for (int i = 0; i < 6; i++)
         all[i]->more = 0;
 }
 
@@ -1135,8 +1219,8 @@ static const struct {
     uint64_t step;
 } readers[] = {
     {SOLVE, &table, 0},       {GATHER, &table, 0},      {STEP, &table, HZ_MIX},  {STEP, &table, HZ_CHECK},
-    {STEP, &table, HZ_SCALE}, {STEP, &table, HZ_CLEAR}, {STEP, &table, HZ_OPEN}, {DEAL, &values, 0},
-    {PLAIN, &values, 0},
+    {STEP, &table, HZ_SCALE}, {STEP, &table, HZ_CLEAR}, {STEP, &table, HZ_OPEN}, {WRITE, &table, 0},
+    {READ, &table, 0},        {DEAL, &values, 0},       {PLAIN, &values, 0},
 };
 #define READERS (sizeof readers / sizeof readers[0])
 
@@ -1185,6 +1269,10 @@ static void read_large(size_t reader, int round, uint64_t r, uint64_t c, uint64_
         return; /* it takes long, and the large cases are full of such bytes */
     if (tapes)
         make_tapes(kind);
+    if (kind == WRITE)
+        make_target();
+    if (kind == READ)
+        make_input(); /* the table is in it */
     if (round == LATER_FAULTS) {
         stretch(&mask, wrong_length(mask.len));
         stretch(&nonzero, wrong_length(nonzero.len));
@@ -1516,6 +1604,487 @@ static void case_of_faults(uint64_t i)
     call_expecting(PLAIN);
 }
 
+/* ---- The exchange record (R-3) ----
+ *
+ * What hz_read must tell is known here from how a record was made and damaged, and not
+ * from reading it. */
+
+/* Examples of R-3, the first of them its record R, and others of the same kind. */
+static const struct {
+    const char *bytes;        /* in hex */
+    uint64_t number, told[3]; /* of a refusal, and its details; or 0, and field, shares and size */
+} record_vectors[] = {
+    {"0100020010 02000102 03000101 04000401020304 FF0000", 0, {16, 2, 1}},
+    {"", 17, {0}},
+    {"0100020010", 17, {5}},
+    {"0100020010 02000102 03000101 04000401020304 FF00", 17, {20}},
+    {"0100020010 02000102 03000101 04000401020304 FF0000 00", 18, {23}},
+    {"0100020010 02000102 03000101 05000401020304 FF0000", 16, {13}},
+    {"0100020010 02000102 03000101 04000401020304 FE0000", 16, {20}},
+    {"0100020010 02000102 03000101 04000401021004 FF0000", 6, {1, 2, 1}},
+    {"0100020100 02000102 03000101 04000401021004 FF0000", 0, {256, 2, 1}},
+    /* cut right after a tag, which is wrong or right */
+    {"00", 16, {0}},
+    {"01", 17, {0}},
+    {"0100020010 03", 16, {5}},
+    {"0100020010 02", 17, {5}},
+    {"0100020010 02000102 FF", 16, {9}},
+    {"0100020010 02000102 03", 17, {9}},
+    {"0100020010 02000102 03000101 05", 16, {13}},
+    {"0100020010 02000102 03000101 04", 17, {13}},
+    {"0100020010 02000102 03000101 04000401020304 FE", 16, {20}},
+    {"0100020010 02000102 03000101 04000401020304 FF", 17, {20}},
+    /* fields exchanged, twice there, or missing */
+    {"02000102 0100020010 03000101 04000401020304 FF0000", 16, {0}},
+    {"0100020010 03000101 02000102 04000401020304 FF0000", 16, {5}},
+    {"0100020010 02000102 04000401020304 03000101 FF0000", 16, {9}},
+    {"0100020010 0100020010 02000102 03000101 04000401020304 FF0000", 16, {5}},
+    {"0100020010 02000102 03000101 04000401020304 04000401020304 FF0000", 16, {20}},
+    {"0100020010 03000101 04000401020304 FF0000", 16, {5}},
+    {"0100020010 02000102 03000101 FF0000", 16, {13}},
+    {"0100020010 02000102 03000101 04000401020304", 17, {20}},
+    {"FF0000", 16, {0}},
+    /* lengths that do not suit, or low byte first */
+    {"01000110 02000102 03000101 04000401020304 FF0000", 17, {0}},
+    {"0102000010 02000102 03000101 04000401020304 FF0000", 17, {0}},
+    {"0100020010 0200020002 03000101 04000401020304 FF0000", 17, {5}},
+    {"0100020010 02000102 03010001 04000401020304 FF0000", 17, {9}},
+    {"0100020010 02000102 03000101 04000401020304 FF000100", 17, {20}},
+    /* lengths of the table: any suits its tag, and then 4 tells what the size wants */
+    {"0100020010 02000102 03000101 040000 FF0000", 4, {4}},
+    {"0100020010 02000102 03000101 040003010203 FF0000", 4, {4}},
+    {"0100020010 02000102 03000101 0400050102030405 FF0000", 4, {4}},
+    {"0100020010 02000102 03000101 04000301020304 FF0000", 16, {19}},
+    {"0100020010 02000102 03000101 04000501020304 FF0000", 16, {21}},
+    {"0100020010 02000102 03000101 04000701020304 FF0000", 17, {23}},
+    {"0100020010 02000102 03000101 04000801020304 FF0000", 17, {13}},
+    {"0100020010 02000102 03000101 04FFFF01020304 FF0000", 17, {13}},
+    {"0100020010 02000102 03000101 04040001020304 FF0000", 17, {13}},
+    /* a table in which an end seems to be */
+    {"0100020100 02000102 03000101 040004FF000005 FF0000", 0, {256, 2, 1}},
+    {"0100020100 02000102 03000101 040004FF0000FF FF0000", 0, {256, 2, 1}},
+    {"0100020100 02000102 03000101 040000FF000005 FF0000", 18, {19}},
+    {"0100020100 02000102 03000101 040004FF000005 FF00", 17, {20}},
+    /* 16 to 18 come before what the fields hold */
+    {"0100020011 02000102 03000101 04000401020304 FF0000", 1, {17}},
+    {"0100020011 02000102 03000101 04000401020304 FE0000", 16, {20}},
+    {"0100020011 02000102 03000101 04000401020304 FF00", 17, {20}},
+    {"0100020011 02000102 03000101 04000401020304 FF0000 00", 18, {23}},
+    {"0100020010 02000102 03000101 04000401021004 FF0000 00", 18, {23}},
+    /* and then 1, 2, 3, 4, 6 */
+    {"010002001F 02000100 03000100 040000 FF0000", 1, {31}},
+    {"010002FFFF 02000102 03000101 04000401020304 FF0000", 1, {65535}},
+    {"0100020010 02000105 03000161 040000 FF0000", 2, {5}},
+    {"0100020010 02000102 03000161 04000110 FF0000", 3, {97}},
+    {"0100020010 02000102 03000102 04000401021004 FF0000", 4, {12}},
+};
+#define ALL_RECORD_VECTORS (sizeof record_vectors / sizeof record_vectors[0])
+
+static void case_of_record_vectors(uint64_t i)
+{
+    const char *digits = record_vectors[i].bytes;
+    const uint64_t *told = record_vectors[i].told;
+    unsigned byte;
+    int taken;
+    for (input.len = 0; sscanf(digits, "%2x%n", &byte, &taken) == 1; digits += taken)
+        input.lent[input.len++] = (uint8_t)byte;
+    fresh_words();
+    expect(record_vectors[i].number, told[0], told[1], told[2]);
+    field = told[0]; /* for one that is accepted */
+    shares = told[1];
+    size = told[2];
+    read_expecting();
+}
+
+/* The fields of a record by their tags. */
+enum { TAG_1, TAG_2, TAG_3, TAG_4, TAG_255, TAGS };
+
+#define TAG_4_AT 13 /* the last one whose place is always the same */
+
+/* The length that the input tells at this field's first offset. */
+static size_t told_length(size_t first)
+{
+    return (size_t)input.lent[first + 1] << 8 | input.lent[first + 2];
+}
+
+static void tell_length(size_t first, size_t told)
+{
+    input.lent[first + 1] = (uint8_t)(told >> 8);
+    input.lent[first + 2] = (uint8_t)told;
+}
+
+/* The first offset of a field, by the header's picture. */
+static size_t first_offset(int tag)
+{
+    static const size_t firsts[] = {0, 5, 9, TAG_4_AT};
+    return tag < TAG_255 ? firsts[tag] : HZ_TABLE_AT + told_length(TAG_4_AT);
+}
+
+/* The field of a right record that has the byte at this offset, or misses it where the
+ * record is cut there. */
+static int tag_over(size_t at)
+{
+    int tag = TAG_255;
+    while (first_offset(tag) > at)
+        tag--;
+    return tag;
+}
+
+/* 6 is told of this place of the table. */
+static void expect_large(size_t at)
+{
+    expect(6, at / shares / (size + 1) + 1, at / shares % (size + 1) + 1, at % shares + 1);
+}
+
+/* Small records, which are damaged in every place. Their tables hold 1, 2, 3 and so on:
+ * so the first is R, and 255 is in none. */
+static const struct {
+    uint64_t field, shares, size;
+} small_records[] = {{16, 2, 1}, {256, 3, 2}, {16, 2, 2}};
+#define ALL_SMALL_RECORDS (sizeof small_records / sizeof small_records[0])
+#define SMALL_RECORD_BYTES (3 * HZ_BESIDE_TABLE + 4 + 18 + 12) /* of all together */
+
+static void make_small_record(size_t which)
+{
+    field = small_records[which].field;
+    shares = small_records[which].shares;
+    size = small_records[which].size;
+    table.len = size * (size + 1) * shares;
+    for (size_t i = 0; i < table.len; i++)
+        table.lent[i] = (uint8_t)(i + 1);
+    make_input();
+    fresh_words();
+}
+
+/* A small record in which the length that tag 4 tells was changed. */
+static void expect_other_table(void)
+{
+    size_t told = told_length(TAG_4_AT), left = input.len - HZ_TABLE_AT;
+    if (told > left)
+        expect(17, TAG_4_AT, 0, 0);
+    else /* the end is looked for where no 255 is */
+        expect(told == left ? 17 : 16, HZ_TABLE_AT + told, 0, 0);
+}
+
+/* A small record in which the body's byte at this offset was changed. */
+static void expect_other_body(int tag, size_t at)
+{
+    uint64_t byte = input.lent[at];
+    switch (tag) {
+    case TAG_1:
+        expect(1, (uint64_t)input.lent[3] << 8 | input.lent[4], 0, 0);
+        break;
+    case TAG_2:
+        if (byte < 2 || byte > 4)
+            expect(2, byte, 0, 0);
+        else
+            expect(4, size * (size + 1) * byte, 0, 0);
+        break;
+    case TAG_3:
+        if (byte < 1 || byte > 96)
+            expect(3, byte, 0, 0);
+        else
+            expect(4, byte * (byte + 1) * shares, 0, 0);
+        break;
+    default:
+        if (field == 16 && byte >= 16)
+            expect_large(at - HZ_TABLE_AT);
+        else
+            expect(0, 0, 0, 0);
+    }
+}
+
+/* Every other value of one byte. */
+static void case_of_changes(uint64_t i)
+{
+    size_t which = 0;
+    for (make_small_record(which); i >= input.len; make_small_record(++which))
+        i -= input.len;
+    for (unsigned change = 1; change < 256; change++) {
+        make_small_record(which);
+        int tag = tag_over(i);
+        size_t first = first_offset(tag);
+        input.lent[i] ^= (uint8_t)change;
+        if (i == first)
+            expect(16, first, 0, 0);
+        else if (i > first + 2)
+            expect_other_body(tag, i);
+        else if (tag == TAG_4)
+            expect_other_table();
+        else
+            expect(17, first, 0, 0);
+        read_expecting();
+    }
+}
+
+/* Every cut of a small record, every wrong tag with the input cut right after it, and a
+ * few bytes after the end. */
+static void case_of_cuts(uint64_t which)
+{
+    make_small_record(which);
+    size_t right = input.len;
+    for (size_t len = 0; len < right; len++) {
+        make_small_record(which);
+        expect(17, first_offset(tag_over(len)), 0, 0);
+        input.len = len;
+        read_expecting();
+    }
+    for (int tag = 0; tag < TAGS; tag++)
+        for (unsigned change = 1; change < 256; change++) {
+            make_small_record(which);
+            size_t first = first_offset(tag);
+            input.lent[first] ^= (uint8_t)change;
+            input.len = first + 1;
+            expect(16, first, 0, 0);
+            read_expecting();
+        }
+    for (size_t more = 1; more <= 4; more++)
+        for (int byte = 0; byte < 256; byte++) {
+            make_small_record(which);
+            memset(input.lent + right, byte, more);
+            input.len = right + more;
+            expect(18, right, 0, 0);
+            read_expecting();
+        }
+}
+
+/* Faults of a record in the order in which hz_read tells them: five in each field, and
+ * then those of the whole. They are made from the last to the first, so that the first
+ * has the last word on what is expected; and where one is made, the form of all before
+ * it is right still. */
+enum { NONE_LEFT, WRONG_TAG, HEADER_CUT, WRONG_LENGTH, BODY_CUT, FIELD_FAULTS };
+enum {
+    AFTER_END = TAGS * FIELD_FAULTS - 1, /* the end has no body to cut */
+    NO_FIELD,
+    NO_SHARES,
+    NO_SIZE,
+    OTHER_TABLE,
+    LARGE_ENTRY,
+    READ_FAULTS, /* which is also the number of none */
+};
+
+#define ONE_OF(list) (list)[below(sizeof(list) / sizeof(list)[0])]
+
+/* The table has a byte of 16 or more. */
+static void make_large_entry(void)
+{
+    size_t at = below(table.len);
+    plant_large(&table, at);
+    if (field == 16)
+        expect_large(at);
+}
+
+/* The table is not as long as the numbers want, by its own length or by theirs. */
+static void make_other_table(void)
+{
+    switch (below(6)) {
+    case 0:
+        table.len = 0;
+        break;
+    case 1:
+        stretch(&table, MAX_TOLD);
+        break;
+    case 2:
+        shares = 2 + (shares - 1 + below(2)) % 3;
+        break;
+    case 3:
+        size = 1 + (size + below(95)) % 96;
+        break;
+    default:
+        make_wrong(&table);
+    }
+    expect(4, size * (size + 1) * shares, 0, 0);
+}
+
+/* The faults of this set that a record can have though its form is right. */
+static void make_content_faults(uint32_t faults)
+{
+    static const uint64_t no_fields[] = {0, 1, 15, 17, 31, 255, 257, 4096, 65535};
+    static const uint64_t no_shares[] = {0, 1, 5, 255}, no_sizes[] = {0, 97, 255};
+    if (faults & 1u << LARGE_ENTRY)
+        make_large_entry();
+    if (faults & 1u << OTHER_TABLE)
+        make_other_table();
+    if (faults & 1u << NO_SIZE) {
+        size = ONE_OF(no_sizes);
+        expect(3, size, 0, 0);
+    }
+    if (faults & 1u << NO_SHARES) {
+        shares = ONE_OF(no_shares);
+        expect(2, shares, 0, 0);
+    }
+    if (faults & 1u << NO_FIELD) {
+        field = ONE_OF(no_fields);
+        expect(1, field, 0, 0);
+    }
+}
+
+static void make_bytes_after(void)
+{
+    size_t right = input.len;
+    expect(18, right, 0, 0);
+    stretch(&input, right + 1 + below(one_in(8) ? SPARE : 4));
+    if (one_in(4))
+        memset(input.lent + right, 0, input.len - right);
+    if (one_in(4) && right <= ROOM) { /* the same record once more */
+        memcpy(input.lent + right, input.lent, right);
+        input.len = 2 * right;
+    }
+}
+
+/* A field's length does not suit its tag. The body is of that length, or as it was. */
+static void make_unsuitable(size_t first, size_t right)
+{
+    size_t told = right, body = first + 3;
+    while (told == right)
+        told = one_in(2) ? below(4) : one_in(2) ? right << 8 : below(MAX_TOLD + 1);
+    tell_length(first, told);
+    if (told >= 256 || input.len < body + right || one_in(2))
+        return;
+    memmove(input.lent + body + told, input.lent + body + right, input.len - (body + right));
+    fill(input.lent + body, told);
+    input.len += told - right;
+}
+
+/* Tag 4 tells more bytes than are left: the input is cut, or it tells too many. Where it
+ * tells none, nothing can be cut; where as many are left as can be told, it can't tell
+ * more. */
+static void make_table_longer(bool cut)
+{
+    size_t told = told_length(TAG_4_AT), left = input.len - HZ_TABLE_AT;
+    if (left >= MAX_TOLD || (cut && told > 0))
+        input.len = HZ_TABLE_AT + below(told);
+    else
+        tell_length(TAG_4_AT, one_in(4) ? MAX_TOLD : left + 1 + (one_in(2) ? 0 : below(MAX_TOLD - left)));
+}
+
+static void make_form_fault(int tag, int fault)
+{
+    static const uint8_t tags[TAGS] = {1, 2, 3, 4, 255};
+    static const size_t lengths_wanted[TAGS] = {2, 1, 1, 0, 0}; /* any number suits tag 4 */
+    size_t told = told_length(TAG_4_AT);
+    if (tag == TAG_255 && fault == WRONG_TAG && told > 0 && one_in(2))
+        tell_length(TAG_4_AT, below(told)); /* so that the end is looked for in the table */
+    size_t first = first_offset(tag);
+    switch (fault) {
+    case NONE_LEFT:
+        input.len = first;
+        break;
+    case WRONG_TAG:
+        do
+            input.lent[first] = one_in(2) ? ONE_OF(tags) : (uint8_t)any();
+        while (input.lent[first] == tags[tag]);
+        break;
+    case HEADER_CUT:
+        input.len = first + 1 + below(2);
+        break;
+    case WRONG_LENGTH:
+        if (tag == TAG_4)
+            make_table_longer(false);
+        else
+            make_unsuitable(first, lengths_wanted[tag]);
+        break;
+    default: /* BODY_CUT */
+        if (tag == TAG_4)
+            make_table_longer(true);
+        else
+            input.len = first + 3 + below(lengths_wanted[tag]);
+    }
+    expect(fault == WRONG_TAG ? 16 : 17, first, 0, 0);
+}
+
+static uint64_t made_up_records, damaged_records;
+
+/* Every pair of faults; and every set of those of the whole, a few times each, since of
+ * most pairs a fault in a field is told. */
+#define FAULT_PAIRS ((READ_FAULTS + 1) * (READ_FAULTS + 1))
+#define WHOLE_SETS (1 << (READ_FAULTS - AFTER_END))
+#define READ_SETS (FAULT_PAIRS + 5 * WHOLE_SETS)
+
+static uint32_t read_set(uint64_t i)
+{
+    if (i < FAULT_PAIRS)
+        return 1u << i % (READ_FAULTS + 1) | 1u << i / (READ_FAULTS + 1);
+    return (uint32_t)((i - FAULT_PAIRS) % WHOLE_SETS << AFTER_END);
+}
+
+/* These sets, and sometimes a fault more, in records of made-up systems, which are
+ * written and read while they are right still. */
+#define READ_ROUNDS 5
+#define ALL_READ_FAULTS (READ_SETS * 2 * 3 * READ_ROUNDS)
+static void case_of_read_faults(uint64_t i)
+{
+    uint32_t faults = read_set(i % READ_SETS);
+    i /= READ_SETS;
+    field = i % 2 == 0 ? 16 : 256;
+    shares = 2 + i / 2 % 3;
+    size = one_in(80) ? 96 : one_in(80) ? 1 + below(96) : 1 + below(6);
+    make_values(RANDOM);
+    make_table();
+    write_and_read();
+    if (one_in(4))
+        faults |= 1u << below(READ_FAULTS);
+    make_content_faults(faults);
+    make_input();
+    if (faults & 1u << AFTER_END)
+        make_bytes_after();
+    for (int fault = AFTER_END; fault-- > 0;)
+        if (faults & 1u << fault)
+            make_form_fault(fault / FIELD_FAULTS, fault % FIELD_FAULTS);
+    read_expecting();
+    made_up_records += 2;
+    damaged_records += refusal[0] != 0;
+}
+
+/* Every set of the six faults of a write, as with the plain call. */
+enum { BAD_TABLE = BAD_VALUES, BAD_TARGET = BAD_SOLUTION, BAD_SHARES = FAULT_SETS, WRITE_FAULT_SETS = 2 * FAULT_SETS };
+
+#define WRITE_ROUNDS 4
+#define WRITE_SIZES (sizeof sizes_of_faults / sizeof sizes_of_faults[0])
+#define ALL_WRITE_FAULTS (WRITE_FAULT_SETS * 2 * 3 * WRITE_SIZES * WRITE_ROUNDS)
+
+static bool is_number_of_shares(uint64_t number)
+{
+    return number >= 2 && number <= 4;
+}
+
+static void case_of_write_faults(uint64_t i)
+{
+    uint64_t faults = i % WRITE_FAULT_SETS;
+    i /= WRITE_FAULT_SETS;
+    field = i % 2 == 0 ? 16 : 256;
+    shares = 2 + i / 2 % 3;
+    size = sizes_of_faults[i / 6 / WRITE_ROUNDS];
+    make_values(RANDOM);
+    make_table();
+    make_target();
+    fresh_words();
+    expect(0, 0, 0, 0);
+    if (faults & LARGE_BYTE)
+        make_large_entry();
+    if (faults & BAD_TARGET) {
+        expect(5, HZ_BESIDE_TABLE + table.len, 0, 0);
+        make_wrong(&target);
+    }
+    if (faults & BAD_TABLE) {
+        expect(4, table.len, 0, 0);
+        make_wrong(&table);
+    }
+    if (faults & BAD_SIZE) {
+        size = refused_number(is_size);
+        expect(3, size, 0, 0);
+    }
+    if (faults & BAD_SHARES) {
+        shares = refused_number(is_number_of_shares);
+        expect(2, shares, 0, 0);
+    }
+    if (faults & BAD_FIELD) {
+        field = refused_number(is_field);
+        expect(1, field, 0, 0);
+    }
+    call_expecting(WRITE);
+}
+
 /* ---- Three ways to one answer ----
  *
  * R-1: the plain call's answer is that of the masked solve of any dealing. Each
@@ -1647,7 +2216,9 @@ static void look_back(void)
         for (uint64_t c = 0; c <= s; c++)
             all_met &= stop_met[s][c];
     printf("three ways agree on %" PRIu64 " systems, of which %" PRIu64 " are singular\n", systems, singular_systems);
-    if (systems >= 20000 && 2 * singular_systems == systems && all_met)
+    printf("%" PRIu64 " exchange records were made up, of which %" PRIu64 " are damaged\n", made_up_records,
+           damaged_records);
+    if (systems >= 20000 && 2 * singular_systems == systems && all_met && made_up_records >= 50000)
         return;
     printf("these are too few, or not half, or a column of some size was never the first\n");
     printf("%" PRIu64 " passed, 1 failed\n", calls);
@@ -1719,6 +2290,11 @@ static const struct {
     {ALL_REFUSED_SHARES, case_of_refused_shares},
     {ALL_VECTORS, case_of_vectors},
     {ALL_FAULTS, case_of_faults},
+    {ALL_RECORD_VECTORS, case_of_record_vectors},
+    {SMALL_RECORD_BYTES, case_of_changes},
+    {ALL_SMALL_RECORDS, case_of_cuts},
+    {ALL_READ_FAULTS, case_of_read_faults},
+    {ALL_WRITE_FAULTS, case_of_write_faults},
     {ALL_WAYS, case_of_ways},
     {RANDOM_CASES, case_random},
     {ALL_LARGE_WAYS, case_of_large_ways},
@@ -1743,7 +2319,7 @@ static bool run_case(void)
 
 int main(int argc, char **argv)
 {
-    buffer *all[] = {&table, &solution, &values, &mask, &nonzero, &record, &answer};
+    buffer *all[] = {&table, &solution, &values, &mask, &nonzero, &target, &input, &record, &answer};
     int signals[] = {SIGSEGV, SIGBUS, SIGILL, SIGFPE, SIGABRT};
     for (size_t i = 0; i < sizeof signals / sizeof signals[0]; i++)
         signal(signals[i], crashed);

@@ -497,6 +497,98 @@ static void move_on(uint64_t *record)
     }
 }
 
+/* ---- The exchange record (R-3) ----
+ *
+ * R-3's tagged fields are called parts here, since a field is F16 or F256. A part is its
+ * tag, the length of its body in two bytes, and its body; numbers have their high byte
+ * first. */
+
+enum { FIELD, SHARES, SIZE, TABLE, END, PARTS };
+
+/* The parts in their order, and how short and how long a body suits the tag. Any length
+ * suits tag 4, as far as two bytes can tell it. */
+static const struct {
+    uint8_t tag;
+    uint64_t shortest, longest;
+} parts[PARTS] = {
+    [FIELD] = {1, 2, 2}, [SHARES] = {2, 1, 1}, [SIZE] = {3, 1, 1}, [TABLE] = {4, 0, 65535}, [END] = {255, 0, 0},
+};
+
+/* The bytes of a record in all. */
+static uint64_t record_length(uint64_t table_len)
+{
+    uint64_t sum = table_len;
+    for (int i = 0; i < PARTS; i++)
+        sum += 3 + parts[i].shortest; /* for the table's body that is 0 */
+    return sum;
+}
+
+/* The writers of a piece of a record tell where the next one goes. */
+
+static uint8_t *put_number(uint8_t *to, uint64_t bytes, uint64_t number)
+{
+    for (uint64_t i = bytes; i > 0; i--, number /= 256)
+        to[i - 1] = (uint8_t)(number % 256);
+    return to + bytes;
+}
+
+static uint8_t *put_header(uint8_t *to, int part, uint64_t body_len)
+{
+    return put_number(put_number(to, 1, parts[part].tag), 2, body_len);
+}
+
+/* A part whose body is a number, of the one length that suits it. */
+static uint8_t *put_number_part(uint8_t *to, int part, uint64_t number)
+{
+    return put_number(put_header(to, part, parts[part].longest), parts[part].longest, number);
+}
+
+/* An input, of which so many bytes are read. */
+typedef struct {
+    const uint8_t *bytes;
+    uint64_t len, taken;
+} cursor;
+
+typedef struct {
+    const uint8_t *bytes;
+    uint64_t len;
+} body;
+
+/* The next bytes, or NULL where so many are not left. */
+static const uint8_t *take(cursor *from, uint64_t bytes)
+{
+    if (from->len - from->taken < bytes)
+        return NULL;
+    from->taken += bytes;
+    return from->bytes + (from->taken - bytes);
+}
+
+static uint64_t number_of(body b)
+{
+    uint64_t number = 0;
+    for (uint64_t i = 0; i < b.len; i++)
+        number = number * 256 + b.bytes[i];
+    return number;
+}
+
+/* Reads what must be this part. 16, 17, or 0 for none. */
+static uint64_t take_part(cursor *from, int part, body *found)
+{
+    const uint8_t *tag = take(from, 1);
+    if (tag == NULL)
+        return 17;
+    if (*tag != parts[part].tag)
+        return 16;
+    body length = {take(from, 2), 2};
+    if (length.bytes == NULL)
+        return 17;
+    found->len = number_of(length);
+    if (found->len < parts[part].shortest || found->len > parts[part].longest)
+        return 17;
+    found->bytes = take(from, found->len);
+    return found->bytes == NULL ? 17 : 0;
+}
+
 /* ---- The calls ---- */
 
 uint64_t model_start(uint64_t field, uint64_t n, uint64_t m,
@@ -745,4 +837,58 @@ uint64_t model_counts(uint64_t field, uint64_t n, uint64_t m, uint64_t *answer, 
     if (bad)
         return refuse(answer, bad, detail);
     return say(HZ_COUNTS, answer, m * (m + 2), model_full_mask_draws(field, n, m), m * (n - 1), 0);
+}
+
+uint64_t model_write(uint64_t field, uint64_t n, uint64_t m,
+                     const uint8_t *table, size_t table_len,
+                     uint8_t *target, size_t target_len,
+                     uint64_t *answer, size_t answer_len)
+{
+    if (answer_len != HZ_ANSWER_WORDS)
+        return HZ_BAD_WORDS;
+    uint64_t detail, bad = bad_number(field, n, m, &detail);
+    if (bad)
+        return refuse(answer, bad, detail);
+    if (table_len != m * (m + 1) * n)
+        return refuse(answer, 4, m * (m + 1) * n);
+    if (target_len != record_length(table_len))
+        return refuse(answer, 5, record_length(table_len));
+    cell large = first_large(field, m, n, table);
+    if (large.row)
+        return refuse_cell(answer, 6, large);
+
+    uint8_t *to = put_number_part(target, FIELD, field);
+    to = put_number_part(to, SHARES, n);
+    to = put_number_part(to, SIZE, m);
+    to = put_header(to, TABLE, table_len);
+    memcpy(to, table, table_len);
+    put_header(to + table_len, END, 0);
+    return say(HZ_FILLED, answer, 0, 0, 0, 0);
+}
+
+uint64_t model_read(const uint8_t *input, size_t input_len,
+                    uint64_t *answer, size_t answer_len)
+{
+    if (answer_len != HZ_ANSWER_WORDS)
+        return HZ_BAD_WORDS;
+    cursor from = {input, input_len, 0};
+    body found[PARTS];
+    for (int part = 0; part < PARTS; part++) {
+        uint64_t first = from.taken, bad = take_part(&from, part, &found[part]);
+        if (bad)
+            return refuse(answer, bad, first);
+    }
+    if (from.taken < input_len)
+        return refuse(answer, 18, from.taken);
+
+    uint64_t field = number_of(found[FIELD]), n = number_of(found[SHARES]), m = number_of(found[SIZE]);
+    uint64_t detail, bad = bad_number(field, n, m, &detail);
+    if (bad)
+        return refuse(answer, bad, detail);
+    if (found[TABLE].len != m * (m + 1) * n)
+        return refuse(answer, 4, m * (m + 1) * n);
+    cell large = first_large(field, m, n, found[TABLE].bytes);
+    if (large.row)
+        return refuse_cell(answer, 6, large);
+    return say(HZ_SYSTEM, answer, field, n, m, found[TABLE].len);
 }

@@ -1,5 +1,5 @@
-/* An independent C implementation of the paper 01, and of R-1 and R-2 in 02, for the
- * calls of hostozaro.h: each model_X answers as hz_X must. Written from the papers
+/* An independent C implementation of the paper 01, and of R-1, R-2 and R-3 in 02, for
+ * the calls of hostozaro.h: each model_X answers as hz_X must. Written from the papers
  * alone (model_wanted, which they have not, and the words of an answer from
  * hostozaro.h), for clarity, and used only to compare. */
 #ifndef MODEL_H
@@ -48,6 +48,14 @@ uint64_t model_gather(uint64_t field, uint64_t shares, uint64_t size,
 
 uint64_t model_counts(uint64_t field, uint64_t shares, uint64_t size,
                       uint64_t *answer, size_t answer_len);
+
+uint64_t model_write(uint64_t field, uint64_t shares, uint64_t size,
+                     const uint8_t *table, size_t table_len,
+                     uint8_t *target, size_t target_len,
+                     uint64_t *answer, size_t answer_len);
+
+uint64_t model_read(const uint8_t *input, size_t input_len,
+                    uint64_t *answer, size_t answer_len);
 
 /* For tests that make up systems and tapes. */
 

@@ -36,6 +36,33 @@
  *     14 CALL               a call refuses a longer mask tape that it must take
  *     15 hz_solve           and a longer nonzero tape
  *
+ * and of R-3:
+ *
+ *     low first length CALL   a length is low byte first
+ *     low first field CALL    the field's number is low byte first
+ *     table at 15 CALL        the table is one byte too early
+ *     spoils CALL             changes a byte of the table or of the input
+ *     2 before 1 CALL, 3 before 2, 4 before 3, and 5 before 4, 6 before 5 hz_write, 6 before 4 hz_read
+ *     refuses late hz_write   has written the first field when it refuses by 6
+ *     leaves the end          hz_write leaves the last byte of the target as it was
+ *     longer target           hz_write takes a target that is too long
+ *     5 of the table          5 tells the length that the table must have
+ *     own reader              hz_read answers by the reader in this file, which is no fault
+ *     any order               this one takes the fields in any order
+ *     any length              this one does not look whether a length suits its tag
+ *     longer input            hz_read takes bytes after the end
+ *     longer table            hz_read tells one byte too many of the table
+ *     shorter table           and one too few
+ *     17 for 16               where the input ends after a wrong tag
+ *     16 for 17               where it ends after a right one
+ *     16 for none             where it ends before the tag
+ *     17 for 4                where the table is not as long as the size wants
+ *     detail 0                16 and 17 tell offset 0
+ *     detail end              16 and 17 tell where the reading ended
+ *     18 at the last          18 tells the last byte
+ *     18 one later            18 tells the second byte after the end
+ *     1 before 16, 1 before 17, 1 before 18
+ *
  * Linked with --wrap for every call. */
 #include "hostozaro.h"
 #include "model.h"
@@ -98,6 +125,21 @@ static void spoil_cell(const char *call, uint64_t depth, uint64_t m, uint64_t *a
         answer[3] = share - 1;
     if (fault_at("share 1", call))
         answer[3] = 1;
+}
+
+/* A refusal by 6 that tells this place of a table. */
+static uint64_t told_byte(uint64_t n, uint64_t m, size_t at, uint64_t *answer)
+{
+    return told(HZ_REFUSED, answer, 6, at / n / (m + 1) + 1, at / n % (m + 1) + 1, at % n + 1);
+}
+
+/* The first byte of 16 or more, or len. */
+static size_t first_large(const uint8_t *bytes, size_t len)
+{
+    size_t at = 0;
+    while (at < len && bytes[at] < 16)
+        at++;
+    return at;
 }
 
 uint64_t __real_hz_start(uint64_t, uint64_t, uint64_t, uint64_t *, size_t, uint64_t *, size_t);
@@ -369,4 +411,191 @@ uint64_t __wrap_hz_counts(uint64_t field, uint64_t shares, uint64_t size, uint64
 {
     WORDS(hz_counts, answer);
     return __real_hz_counts(field, shares, size, answer, answer_len);
+}
+
+static void exchange_bytes(uint8_t *first)
+{
+    uint8_t kept = first[0];
+    first[0] = first[1];
+    first[1] = kept;
+}
+
+/* What hz_write wrote becomes wrong. */
+static void spoil_record(const uint8_t *table, size_t table_len, uint8_t *target)
+{
+    if (fault("low first length hz_write"))
+        exchange_bytes(target + 14);
+    if (fault("low first field hz_write"))
+        exchange_bytes(target + 3);
+    if (fault("table at 15 hz_write"))
+        memcpy(target + 15, table, table_len);
+    if (fault("spoils hz_write"))
+        ((uint8_t *)table)[table_len - 1] ^= 1;
+}
+
+/* A refusal of hz_write becomes another one. */
+static void spoil_write(uint64_t field, uint64_t n, uint64_t m, const uint8_t *table, size_t table_len, uint8_t *target,
+                        size_t target_len, uint64_t *answer)
+{
+    uint64_t number = answer[0], wanted = m * (m + 1) * n;
+    if (fault("refuses late hz_write") && number == 6)
+        memcpy(target, "\1\0\2\0\20", 5);
+    if (fault("5 of the table") && number == 5)
+        answer[1] = wanted;
+    if (fault("2 before 1 hz_write") && number == 1 && (n < 2 || n > 4))
+        told(HZ_REFUSED, answer, 2, n, 0, 0);
+    if (fault("3 before 2 hz_write") && number == 2 && (m < 1 || m > 96))
+        told(HZ_REFUSED, answer, 3, m, 0, 0);
+    if (fault("4 before 3 hz_write") && number == 3 && table_len != wanted)
+        told(HZ_REFUSED, answer, 4, wanted, 0, 0);
+    if (fault("5 before 4 hz_write") && number == 4 && target_len != HZ_BESIDE_TABLE + wanted)
+        told(HZ_REFUSED, answer, 5, HZ_BESIDE_TABLE + wanted, 0, 0);
+    if (fault("6 before 5 hz_write") && number == 5 && field == 16 && first_large(table, table_len) < table_len)
+        told_byte(n, m, first_large(table, table_len), answer);
+    spoil_cell("hz_write", n, m, answer);
+}
+
+uint64_t __real_hz_write(uint64_t, uint64_t, uint64_t, const uint8_t *, size_t, uint8_t *, size_t, uint64_t *, size_t);
+uint64_t __wrap_hz_write(uint64_t field, uint64_t shares, uint64_t size, const uint8_t *table, size_t table_len,
+                         uint8_t *target, size_t target_len, uint64_t *answer, size_t answer_len)
+{
+    BYTES(hz_write, table);
+    BYTES(hz_write, target);
+    WORDS(hz_write, answer);
+    static uint8_t aside[HZ_BESIDE_TABLE + 96 * 97 * 4];
+    uint8_t *to = fault("leaves the end") ? aside : target;
+    uint64_t code = __real_hz_write(field, shares, size, table, table_len, to, target_len, answer, answer_len);
+    if (fault("longer target") && code == HZ_REFUSED && answer[0] == 5 && target_len > answer[1])
+        return __real_hz_write(field, shares, size, table, table_len, target, answer[1], answer, answer_len);
+    if (code == HZ_FILLED && to == aside)
+        memcpy(target, aside, target_len - 1);
+    if (code == HZ_FILLED)
+        spoil_record(table, table_len, target);
+    if (code == HZ_REFUSED)
+        spoil_write(field, shares, size, table, table_len, target, target_len, answer);
+    return code;
+}
+
+static uint64_t two_bytes(const uint8_t *first, bool low_first)
+{
+    return low_first ? first[0] | first[1] << 8 : first[0] << 8 | first[1];
+}
+
+/* The fields of an exchange record: where the body of each is, and how long it is. */
+typedef struct {
+    size_t body[5], len[5];
+} found;
+
+/* HZ_SYSTEM, or HZ_REFUSED with 16, 17 or 18 in answer. */
+static uint64_t find_fields(const uint8_t *input, size_t len, found *f, uint64_t *answer)
+{
+    static const uint8_t tags[5] = {1, 2, 3, 4, 255};
+    static const size_t suits[5] = {2, 1, 1, 0, 0};
+    size_t first = 0;
+    for (int i = 0; i < 5; i++) {
+        int tag = i;
+        if (first == len)
+            return told(HZ_REFUSED, answer, 17, first, 0, 0);
+        for (int other = 0; fault("any order") && other < 5; other++)
+            tag = input[first] == tags[other] ? other : tag;
+        if (input[first] != tags[tag])
+            return told(HZ_REFUSED, answer, 16, first, 0, 0);
+        if (len - first < 3)
+            return told(HZ_REFUSED, answer, 17, first, 0, 0);
+        f->body[tag] = first + 3;
+        f->len[tag] = two_bytes(input + first + 1, fault("low first length hz_read"));
+        bool suitable = tag == 3 || f->len[tag] == suits[tag] || fault("any length");
+        if (!suitable || f->len[tag] > len - f->body[tag])
+            return told(HZ_REFUSED, answer, 17, first, 0, 0);
+        first = f->body[tag] + f->len[tag];
+    }
+    return first == len ? HZ_SYSTEM : told(HZ_REFUSED, answer, 18, first, 0, 0);
+}
+
+static uint64_t by_own_reader(const uint8_t *input, size_t len, uint64_t *answer)
+{
+    found f = {{0}, {0}};
+    if (find_fields(input, len, &f, answer) == HZ_REFUSED)
+        return HZ_REFUSED;
+    uint64_t field = two_bytes(input + f.body[0], fault("low first field hz_read"));
+    uint64_t n = input[f.body[1]], m = input[f.body[2]], wanted = m * (m + 1) * n;
+    if (field != 16 && field != 256)
+        return told(HZ_REFUSED, answer, 1, field, 0, 0);
+    if (n < 2 || n > 4)
+        return told(HZ_REFUSED, answer, 2, n, 0, 0);
+    if (m < 1 || m > 96)
+        return told(HZ_REFUSED, answer, 3, m, 0, 0);
+    if (f.len[3] != wanted)
+        return told(HZ_REFUSED, answer, 4, wanted, 0, 0);
+    size_t large = first_large(input + f.body[3] - (fault("table at 15 hz_read") ? 1 : 0), wanted);
+    if (field == 16 && large < wanted)
+        return told_byte(n, m, large, answer);
+    return told(HZ_SYSTEM, answer, field, n, m, wanted);
+}
+
+/* A refusal by 16, 17 or 18 becomes another one. */
+static void spoil_form(const uint8_t *input, size_t len, uint64_t *answer)
+{
+    uint64_t number = answer[0], first = answer[1];
+    if (fault("17 for 16") && number == 16 && first + 1 == len)
+        answer[0] = 17;
+    if (fault("16 for 17") && number == 17 && first + 1 == len)
+        answer[0] = 16;
+    if (fault("16 for none") && number == 17 && first == len)
+        answer[0] = 16;
+    if (fault("detail 0") && number != 18)
+        answer[1] = 0;
+    if (fault("detail end") && number != 18)
+        answer[1] = number == 16 ? first + 1 : len;
+    if (fault("18 at the last") && number == 18)
+        answer[1] = len - 1;
+    if (fault("18 one later") && number == 18)
+        answer[1] = first + 1;
+    uint64_t field = len < 5 ? 16 : two_bytes(input + 3, false);
+    bool before = (fault("1 before 16") && number == 16) || (fault("1 before 17") && number == 17)
+                  || (fault("1 before 18") && number == 18);
+    if (before && first > 0 && field != 16 && field != 256)
+        told(HZ_REFUSED, answer, 1, field, 0, 0);
+}
+
+/* A refusal of what the fields hold becomes another one. */
+static void spoil_content(const uint8_t *input, uint64_t *answer)
+{
+    uint64_t number = answer[0], n = input[8], m = input[12], wanted = m * (m + 1) * n;
+    size_t len = two_bytes(input + 14, false), large = first_large(input + HZ_TABLE_AT, len);
+    if (fault("17 for 4") && number == 4)
+        told(HZ_REFUSED, answer, 17, 13, 0, 0);
+    if (fault("2 before 1 hz_read") && number == 1 && (n < 2 || n > 4))
+        told(HZ_REFUSED, answer, 2, n, 0, 0);
+    if (fault("3 before 2 hz_read") && number == 2 && (m < 1 || m > 96))
+        told(HZ_REFUSED, answer, 3, m, 0, 0);
+    if (fault("4 before 3 hz_read") && number == 3 && len != wanted)
+        told(HZ_REFUSED, answer, 4, wanted, 0, 0);
+    if (fault("6 before 4 hz_read") && number == 4 && two_bytes(input + 3, false) == 16 && large < len)
+        told_byte(n, m, large, answer);
+    spoil_cell("hz_read", n, m, answer);
+}
+
+uint64_t __real_hz_read(const uint8_t *, size_t, uint64_t *, size_t);
+uint64_t __wrap_hz_read(const uint8_t *input, size_t input_len, uint64_t *answer, size_t answer_len)
+{
+    BYTES(hz_read, input);
+    WORDS(hz_read, answer);
+    uint64_t code = __real_hz_read(input, input_len, answer, answer_len);
+    if (code == HZ_BAD_WORDS)
+        return code;
+    if (fault("own reader") || fault("low first length hz_read") || fault("low first field hz_read")
+        || fault("table at 15 hz_read") || fault("any order") || fault("any length"))
+        return by_own_reader(input, input_len, answer);
+    if (fault("longer input") && code == HZ_REFUSED && answer[0] == 18)
+        return __real_hz_read(input, answer[1], answer, answer_len);
+    if (code == HZ_REFUSED && answer[0] >= 16)
+        spoil_form(input, input_len, answer);
+    else if (code == HZ_REFUSED)
+        spoil_content(input, answer);
+    else
+        answer[3] += fault("longer table") ? 1 : fault("shorter table") ? UINT64_MAX : 0;
+    if (fault("spoils hz_read") && code == HZ_SYSTEM)
+        ((uint8_t *)input)[input_len - 1] ^= 1;
+    return code;
 }

@@ -7,8 +7,8 @@ use Prim.Native.Nat.{ℕ}
 use Rattle.walk.specs.Act.{Held, held}
 use Rattle.host.specs.Faces.{Back, back, Recorded, recorded}
 
--- hz_start, hz_deal, hz_gather, hz_plain: l is the record's words, the table, the values, or the solution; hz_counts and hz_wanted lend nothing
--- else that could change
+-- hz_start, hz_deal, hz_gather, hz_plain, hz_write: l is the record's words, the table, the values, the solution, or the target; hz_counts,
+-- hz_wanted and hz_read lend nothing else that could change
 pub once : {L : Type 0} (b : Back L) (r s : ℕ) (l k : L) (a c : List ℕ) → back r l a ≡ b → back s k c ≡ b → (r ≡ s) × (l ≡ k) × (a ≡ c)
 once {L} b r s l k a c e d =
     let w : back r l a ≡ back s k c = e ∙ sym d in

@@ -12,9 +12,10 @@ use Rattle.walk.specs.Act.{Held}
 use Rattle.verdict.specs.Calls.{Says, refuses, gives, Outcome, Nothing}
 use Rattle.solver.specs.Calls.{Stride, Lent, startCall, countsCall, dealCall, gatherCall, solveCall, stepCall, wantedCall}
 use Rattle.plain.specs.Calls.{plainCall}
+use Rattle.exchange.specs.Calls.{writeCall, readCall}
 use Rattle.host.specs.declared.replies.Reply.{Reply}
 use Rattle.host.specs.Words.{progressOf, wordsOf, kept}
-use Rattle.host.specs.Replies.{fourOf, said, freshReply, countsReply, fullReply, endingReply, strideReply, wantedReply, plainReply}
+use Rattle.host.specs.Replies.{fourOf, said, freshReply, countsReply, fullReply, endingReply, strideReply, wantedReply, plainReply, writtenReply, systemReply}
 
 -- a call that came back: its code, what it was lent as it stands afterwards, and the answer's words
 pub record Back (L : Type 0) : Type 0 where
@@ -93,3 +94,12 @@ hzCounts o answer = worded (four (length answer)) tt answer (handed countsReply 
 
 unfoldable pub hzPlain : ℕ → ℕ → List ℕ → List ℕ → List ℕ → Back (List ℕ)
 hzPlain field size values x answer = worded (four (length answer)) x answer (handed plainReply (plainCall field size values x))
+
+-- ---- the exchange record: written into the target; read, and only read
+
+unfoldable pub hzWrite : ℕ → ℕ → ℕ → List ℕ → List ℕ → List ℕ → Back (List ℕ)
+hzWrite f n m table target answer =
+    worded (four (length answer)) target answer (handed writtenReply (writeCall f n m table target))
+
+unfoldable pub hzRead : List ℕ → List ℕ → Back Nothing
+hzRead input answer = worded (four (length answer)) tt answer (handed systemReply (readCall input))

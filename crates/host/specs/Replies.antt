@@ -9,10 +9,11 @@ use Rattle.walk.specs.declared.Ending.{Ending}
 use Rattle.walk.specs.declared.Ending.the-variants.{Solved, Stopped}
 use Rattle.verdict.specs.Told.{Line}
 use Rattle.verdict.specs.Refusals.{reportOf}
-use Rattle.verdict.specs.Calls.{Says, refuses, gives}
+use Rattle.verdict.specs.Calls.{Says, refuses, gives, Nothing}
 use Rattle.solver.specs.Calls as Calls
 use Rattle.solver.specs.Calls.{Full, filled, Stride, moved, found, done}
 use Rattle.algebra.specs.Linear.{Answer, solved, stopped}
+use Rattle.exchange.specs.declared.System.{System}
 use Rattle.host.specs.declared.replies.Reply.{Reply}
 
 abbrev pub reply : ℕ → ℕ → ℕ → ℕ → ℕ → Reply
@@ -46,6 +47,14 @@ plainReply solved = reply 5 0 0 0 0
 -- Deal and Gather
 unfoldable pub fullReply : Full → Reply
 fullReply filled = reply 6 0 0 0 0
+
+-- Write
+unfoldable pub writtenReply : Nothing → Reply
+writtenReply x = reply 6 0 0 0 0
+
+-- Read
+unfoldable pub systemReply : System → Reply
+systemReply s = reply 10 (s .field) (s .shares) (s .size) (s .length)
 
 -- Start
 unfoldable pub freshReply : Progress → Reply

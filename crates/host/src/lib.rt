@@ -1,4 +1,4 @@
-// The library for C: the public calls over numbers and slices, under the names of include/hostozaro.h. Stands on solver and plain.
+// The library for C: the public calls over numbers and slices, under the names of include/hostozaro.h. Stands on solver, plain and exchange.
 // Each exported function takes any numbers and any buffers, and promises by one equation the code that it returns and every lent byte and
 // word, for every input. A record or an answer that has not its number of words is code 99, before anything else, and nothing is written.
 // The record is `record_words` here: antt reserves `record`.
@@ -8,7 +8,7 @@ mod words;
 ghost use mathlib.Core.Path.{_≡_};
 ghost use Rattle.walk.specs.Act.{held};
 ghost use Rattle.solver.specs.Calls.{order};
-ghost use Rattle.host.specs.Faces.{back, recorded, hzStart, hzStep, hzWanted, hzSolve, hzDeal, hzGather, hzCounts, hzPlain};
+ghost use Rattle.host.specs.Faces.{back, recorded, hzStart, hzStep, hzWanted, hzSolve, hzDeal, hzGather, hzCounts, hzPlain, hzWrite, hzRead};
 use solver::Starting;
 
 // A fresh record of these sizes, or refusal 1, 2, 3.
@@ -163,4 +163,35 @@ pub extern "C" fn hz_plain(
     }
     let s = plain::solve(field, size, values, solution);
     replies::say(answer, replies::of_plain(s))
+}
+
+// The exchange record of a system.
+#[no_mangle]
+pub extern "C" fn hz_write(
+    field: u64,
+    shares: u64,
+    size: u64,
+    table: &[u8],
+    target: &mut [u8],
+    answer: &mut [u64],
+) -> u64
+    ensures { λ r. ⌜ back r (now (target .exit)) (now (answer .exit)) ≡ hzWrite field shares size (now (table .entry)) (now (target .entry)) (now (answer .entry)) ⌝ }
+{
+    if answer.len() != 4 {
+        return 99;
+    }
+    let w = exchange::write(field, shares, size, table, target);
+    replies::say(answer, replies::of_write(w))
+}
+
+// The numbers of an exchange record, and the length of its table, which begins at its byte 16.
+#[no_mangle]
+pub extern "C" fn hz_read(input: &[u8], answer: &mut [u64]) -> u64
+    ensures { λ r. ⌜ back r tt (now (answer .exit)) ≡ hzRead (now (input .entry)) (now (answer .entry)) ⌝ }
+{
+    if answer.len() != 4 {
+        return 99;
+    }
+    let r = exchange::read(input);
+    replies::say(answer, replies::of_read(r))
 }

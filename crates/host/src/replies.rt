@@ -4,7 +4,10 @@ ghost use lib.ListN.{length};
 ghost use Rattle.verdict.specs.Refusals.{paper};
 ghost use Rattle.solver.specs.Calls.{countSays, fillSays, solveSays, stepSays, wantSays};
 ghost use Rattle.plain.specs.Calls.{plainSays};
-ghost use Rattle.host.specs.Replies.{reply, refusalReply, said, countsReply, fullReply, endingReply, strideReply, wantedReply, plainReply, fourOf};
+ghost use Rattle.exchange.specs.Calls.{writeSays, readSays};
+ghost use Rattle.host.specs.Replies.{reply, refusalReply, said, countsReply, fullReply, endingReply, strideReply, wantedReply, plainReply, writtenReply, systemReply, fourOf};
+use exchange::Reading;
+use exchange::Writing;
 use solver::Counting;
 use solver::Filling;
 use solver::Solving;
@@ -109,6 +112,30 @@ pub fn of_plain(x: plain::Solving) -> Reply
         plain::Solving::Refused(y) => refusal(y),
         plain::Solving::Solved => short(5, 0, 0),
         plain::Solving::Stopped(j) => short(3, j, 0),
+    }
+}
+
+pub fn of_write(x: Writing) -> Reply
+    ensures { λ r. ⌜ r ≡ said writtenReply (writeSays x) ⌝ }
+{
+    match x {
+        Writing::Refused(y) => refusal(y),
+        Writing::Written => short(6, 0, 0),
+    }
+}
+
+pub fn of_read(x: Reading) -> Reply
+    ensures { λ r. ⌜ r ≡ said systemReply (readSays x) ⌝ }
+{
+    match x {
+        Reading::Refused(y) => refusal(y),
+        Reading::Found(s) => Reply {
+            code: 10,
+            a: s.field,
+            b: s.shares,
+            c: s.size,
+            d: s.length as u64,
+        },
     }
 }
 

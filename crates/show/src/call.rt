@@ -1,5 +1,5 @@
-// The lines in which the programs refusals_deal, refusals_plain, refusals_solve and refusals_step print a call, with its answer and what was
-// lent before and after, and the small systems that they lend.
+// The lines in which the programs refusals_* print a call, with its answer and what was lent before and after, and the small systems that
+// they lend.
 use course::Order;
 
 // The system [2]x = [3] over F16 in two shares, and a mask tape for it, one byte longer than a full solve needs.

@@ -17,7 +17,10 @@ use Rattle.verdict.specs.declared.Rows.the-variants.{Values}
 use Rattle.verdict.specs.Told.{Told, passed, refused, Line, refuse, _or_}
 use Rattle.verdict.specs.Refusals.{differs, outside, anyPlace, tooLarge, zeroDraw, no1, no2, no3, no4, no5, no6, no7, no8, no9, no14, no15, numbers, buffers}
 use Rattle.solver.specs.Refusals.{wholeTable, tableRows, valueRows, placed, ended, entries, dealDraws, maskAt, nonzeroAt, revealedAt, zeroPivot, no10, no11, no12, sizes, dealOrder, gatherOrder, tapes, solveOrder, standing, wantedOrder, placing, lending, stepOrder}
+use Rattle.solver.specs.Calls.{order}
 use Rattle.plain.specs.Calls.{plainOrder}
+use Rattle.exchange.specs.Record.{rows, tableLength, recordLength, lengthAt, endAt, ends, no16, unsuited, fieldAt, stretch, framed, systemIn, holding}
+use Rattle.exchange.specs.Calls.{writeOrder, no18, readOrder}
 use Rattle.trace.specs.Numbers.{oneOf, Among, Gives}
 
 no-refusal : {l : Line} → passed ≡ refused l → ⊥
@@ -149,6 +152,37 @@ pub plain-gives : (f m : ℕ) (values : List ℕ) (long : ℕ) → Gives (Among 
 unfolding plainOrder oneOf
 plain-gives f m values long =
     in-list _ refl (one f) then in-list _ refl (three m) then buffers-in _ f (Values (m + 1)) (m * (m + 1)) values m long refl refl refl
+
+pub write-gives : (f n m : ℕ) (t : List ℕ) (target : ℕ) → Gives (Among (1 ∷ 2 ∷ 3 ∷ 4 ∷ 5 ∷ 6 ∷ [])) (writeOrder f n m t target)
+unfolding writeOrder oneOf
+write-gives f n m t target =
+    sizes-in _ (order f n m) refl refl refl
+    then buffers-in _ f (rows n m) (tableLength n m) t (recordLength n m) target refl refl refl
+
+-- a field of a record
+fields-in : (ns : List ℕ) (input : List ℕ) (at tag least most : ℕ) → oneOf 16 ns ≡ true → oneOf 17 ns ≡ true
+    → Gives (Among ns) (fieldAt input at tag least most)
+unfolding fieldAt ends no16 unsuited
+fields-in ns input at tag least most a b =
+    in-list ns b (numbered 17 (ltb (length input) (at + 1)) _)
+    then (in-list ns a (numbered 16 (differs (getD input at 0) tag) _)
+    then (in-list ns b (numbered 17 (ltb (length input) (at + 3)) _)
+    then (in-list ns b (numbered 17 (outside least most (lengthAt input at)) _)
+    then in-list ns b (numbered 17 (ltb (length input) (at + (3 + lengthAt input at))) _))))
+
+pub read-gives : (input : List ℕ) → Gives (Among (16 ∷ 17 ∷ 18 ∷ 1 ∷ 2 ∷ 3 ∷ 4 ∷ 6 ∷ [])) (readOrder input)
+unfolding readOrder framed no18 holding oneOf
+read-gives input =
+    let s = systemIn input in
+    (fields-in _ input 0 1 2 2 refl refl
+    then (fields-in _ input 5 2 1 1 refl refl
+    then (fields-in _ input 9 3 1 1 refl refl
+    then (fields-in _ input 13 4 0 65535 refl refl
+    then fields-in _ input (endAt input) 255 0 0 refl refl))))
+    then (in-list _ refl (numbered 18 (ltb (3 + endAt input) (length input)) _)
+    then (sizes-in _ (order (s .field) (s .shares) (s .size)) refl refl refl
+    then (in-list _ refl (four (tableLength (s .shares) (s .size)) (s .length))
+    then in-list _ refl (six (s .field) (rows (s .shares) (s .size)) (stretch input)))))
 
 -- ---- Step, by what is lent
 

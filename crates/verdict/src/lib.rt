@@ -1,5 +1,5 @@
-// What the checks of the calls have in common: 01's table of refusals, with R-2's details, the checks 1 to 9, 14 and 15, and how checks
-// follow each other. Stands on field. Nothing lent is written, and bytes are looked at only where the length is right.
+// What the checks of the calls have in common: 01's table of refusals, with R-2's details and R-3's numbers, the checks 1 to 9, 14 and 15, and how
+// checks follow each other. Stands on field. Nothing lent is written, and bytes are looked at only where the length is right.
 ghost use mathlib.Core.Path.{_≡_};
 ghost use mathlib.Core.List.{[], _∷_};
 ghost use Prim.Native.Nat.{_+_, _/_, _%_, _<_, _≤_};
@@ -48,6 +48,11 @@ pub enum Refusal {
     // 14 and 15: the length wanted
     MaskLong(usize),
     NonzeroLong(usize),
+    // 16 and 17: the first offset of the record's field
+    BadTag(usize),
+    CutField(usize),
+    // 18: the first byte after
+    PastEnd(usize),
 }
 
 // A refusal as numbers: 01's number, and its detail; what the detail has not is 0.
@@ -100,6 +105,9 @@ impl Refusal {
             Refusal::ZeroPivot(c) => with_cell(12, c),
             Refusal::MaskLong(wanted) => with_detail(14, wanted as u64),
             Refusal::NonzeroLong(wanted) => with_detail(15, wanted as u64),
+            Refusal::BadTag(at) => with_detail(16, at as u64),
+            Refusal::CutField(at) => with_detail(17, at as u64),
+            Refusal::PastEnd(at) => with_detail(18, at as u64),
         }
     }
 }

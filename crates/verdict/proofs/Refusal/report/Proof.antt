@@ -88,6 +88,24 @@ enum-known-self-12 c = search needs
 with-detail-requires-12 : tie.Need-with-detail-requires-12
 with-detail-requires-12 c κs = search needs
 
+enum-known-self-13 : tie.Need-enum-known-self-13
+enum-known-self-13 c = search needs
+
+with-detail-requires-13 : tie.Need-with-detail-requires-13
+with-detail-requires-13 c κs = search needs
+
+enum-known-self-14 : tie.Need-enum-known-self-14
+enum-known-self-14 c = search needs
+
+with-detail-requires-14 : tie.Need-with-detail-requires-14
+with-detail-requires-14 c κs = search needs
+
+enum-known-self-15 : tie.Need-enum-known-self-15
+enum-known-self-15 c = search needs
+
+with-detail-requires-15 : tie.Need-with-detail-requires-15
+with-detail-requires-15 c κs = search needs
+
 returns : tie.Need-returns
 returns c = rw (c .before .before .self .given .1, c .with-detail .ensures)
 
@@ -130,6 +148,15 @@ returns-13 c = rw (c .before .before .self11 .given .1, c .with-detail11 .ensure
 returns-14 : tie.Need-returns-14
 returns-14 c = rw (c .before .before .self12 .given .1, c .with-detail12 .ensures)
 
+returns-15 : tie.Need-returns-15
+returns-15 c = rw (c .before .before .self13 .given .1, c .with-detail13 .ensures)
+
+returns-16 : tie.Need-returns-16
+returns-16 c = rw (c .before .before .self14 .given .1, c .with-detail14 .ensures)
+
+returns-17 : tie.Need-returns-17
+returns-17 c = rw (c .before .before .self15 .given .1, c .with-detail15 .ensures)
+
 pub report-spec : {M : Type 1} → statement M
 report-spec =
     tie.close
@@ -162,6 +189,12 @@ report-spec =
     with-detail-requires-11
     enum-known-self-12
     with-detail-requires-12
+    enum-known-self-13
+    with-detail-requires-13
+    enum-known-self-14
+    with-detail-requires-14
+    enum-known-self-15
+    with-detail-requires-15
     returns
     returns-2
     returns-3
@@ -175,4 +208,7 @@ report-spec =
     returns-11
     returns-12
     returns-13
-    returns-14)
+    returns-14
+    returns-15
+    returns-16
+    returns-17)

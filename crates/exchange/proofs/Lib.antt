@@ -1,0 +1,6 @@
+pub mod Fields
+pub mod Admitted
+pub mod Parts
+pub mod RoundTrip
+pub mod Once
+pub mod Examples

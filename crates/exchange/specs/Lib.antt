@@ -1,0 +1,3 @@
+pub mod Record
+pub mod Calls
+pub mod Code
