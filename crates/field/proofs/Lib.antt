@@ -3,6 +3,7 @@ pub mod Linear
 pub mod Product
 pub mod Binary
 pub mod Inverses
+pub mod Power
 pub mod Fields
 pub mod Shift
 pub mod Table

@@ -4,7 +4,7 @@ use mathlib.Core.Path.{refl}
 use borrow.Author.Needs.{needs}
 use lib.ListN.{getD}
 use Rattle.field.specs.Field.{F16}
-use Rattle.field.proofs.Fields.{field16, rule16, inverses16, table-inverse}
+use Rattle.field.proofs.Fields.{field16, rule16, inverses16, inverts-inv}
 use Rattle.field.proofs.inv16.Statement.{statement}
 use Rattle.field.proofs.inv16.Tie as tie
 
@@ -16,7 +16,7 @@ array-read-result c = search needs
 
 returns : tie.Need-returns
 unfolding inverses16 F16
-returns c = table-inverse F16 field16 (λ a. getD inverses16 a 0) rule16 refl (c .args .a)
+returns c = inverts-inv F16 field16 (λ a. getD inverses16 a 0) rule16 refl (c .args .a)
 
 pub inv16-spec : {M : Type 1} → statement M
 inv16-spec = tie.close (tie.spec cast-i array-read-result returns)

@@ -1,22 +1,16 @@
--- `field::inv256` meets its contract: the table's rule.
+-- `field::inv256` meets its contract: the chain's rule.
 -- Assumes nothing.
-use mathlib.Core.Path.{refl, sym, ap, _∙_}
-use Prim.Native.Nat.{ℕ}
-use native.Mathlib.Nat.{mod-eq-of-lt}
+use mathlib.Core.Path.{_∙_}
 use borrow.Author.Needs.{needs}
-use lib.ListN.{getD}
-use Rattle.field.specs.Field.{F256}
-use Rattle.field.proofs.Fields.{field256, rule256, inverses256, table-inverse}
+use Rattle.field.proofs.Fields.{inverse254}
 use Rattle.field.proofs.inv256.Statement.{statement}
 use Rattle.field.proofs.inv256.Tie as tie
 
-array-read-result : tie.Need-array-read-result
-array-read-result c = search needs
+power254-requires : tie.Need-power254-requires
+power254-requires c κs = search needs
 
 returns : tie.Need-returns
-unfolding inverses256 F256
-returns c =
-    ap (λ (x : ℕ). getD inverses256 x 0) (sym (mod-eq-of-lt (c .fits .a .fits))) ∙ table-inverse F256 field256 (λ a. getD inverses256 a 0) rule256 refl (c .args .a)
+returns c = c .power254 .ensures ∙ inverse254 (c .before .fits .a .fits)
 
 pub inv256-spec : {M : Type 1} → statement M
-inv256-spec = tie.close (tie.spec array-read-result returns)
+inv256-spec = tie.close (tie.spec power254-requires returns)
