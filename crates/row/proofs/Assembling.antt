@@ -14,7 +14,7 @@ use Rattle.sharing.specs.Rules.{drawAt, crossed, productOver, product}
 use Rattle.row.specs.Code.Streams.{repeated, doubledRows}
 use Rattle.row.specs.Code.Spread.{spreadAll}
 use Rattle.row.specs.Code.Products.{term, allProducts}
-use Rattle.row.specs.Code.Gather.{later, gatheredByte, gatherAll}
+use Rattle.row.specs.Code.Gather.{gatheredByte, gatherAll}
 use Rattle.sharing.specs.Lists.{Below}
 use Rattle.row.specs.Code.Shares.{ownDraws}
 use Rattle.row.specs.Rows.{Products}
@@ -24,7 +24,6 @@ use Rattle.row.proofs.Producing.{products-at}
 use Rattle.row.proofs.TermLaw.{term-mul}
 use Rattle.row.proofs.Gathering.{gather-at}
 use Rattle.row.proofs.GatherLaw.{gathered-sum}
-use Rattle.row.proofs.Choices.{later-chosen, later-left}
 use Rattle.row.proofs.ShareLaw.{share-law}
 use Rattle.row.proofs.Cells.{in-block, byte-in-block, block-there, own-term, first-term, second-term}
 
@@ -32,14 +31,13 @@ use Rattle.row.proofs.Cells.{in-block, byte-in-block, block-there, own-
 share-of : (n x s : ℕ) → s < n → (x * n + s) % n ≡ s
 share-of n x s h = ap (λ (y : ℕ). y % n) (add-comm (x * n) s) ∙ add-mul-mod-self-right s x n ∙ mod-eq-of-lt h
 
-module _ {f : ℕ} (B : Binary f) (n columns turns r j blocks e wide span : ℕ) (ds a row c m k : List ℕ)
+module _ {f : ℕ} (B : Binary f) (n columns turns r j blocks e wide span : ℕ) (ds a row c m : List ℕ)
     (few : 1 ≤ n) (long : 1 ≤ r) (room : (bits f - 1) * r + r ≤ length m) (fits : turns * n ≤ r)
     (hj : 1 ≤ j) (again : j < turns) (he : 1 ≤ e)
     (all-blocks : columns * n ≤ blocks * (j * n)) (blocks-in : blocks * (j * n) ≤ span)
     (all-wide : columns * n ≤ wide * (e * n)) (wide-in : wide * (e * n) ≤ span)
     (rows-in : n * span ≤ length c) (row-in : span ≤ length row)
     (none : (o : ℕ) → getD c o 0 ≡ 0) (small : Below (fieldOf f .q) a) (shares : length a ≡ n)
-    (chooses : (d q : ℕ) → d < n → q < e * n → getD k (d * (e * n) + q) 0 ≡ later n d q)
   where
     unfoldable pub M : List ℕ
     M = stream (bits f) n turns r a m long room fits
@@ -117,29 +115,26 @@ module _ {f : ℕ} (B : Binary f) (n columns turns r j blocks e wide span : ℕ)
     nothing u s d hu hs l hd = spread-none n columns span ds c rows-in columns-in none u s d hu l hd
 
     -- a byte of the gathered row
-    byte : (u s : ℕ) → u < columns → s < n → getD (gatherAll n (e * n) wide span D k row) (u * n + s) 0 ≡ gatheredByte n (e * n) span D k (u * n + s) (u % e * n + s)
+    byte : (u s : ℕ) → u < columns → s < n → getD (gatherAll n (e * n) wide span D row) (u * n + s) 0 ≡ gatheredByte n span D (u * n + s) (u % e * n + s)
     byte u s hu hs =
         let g : u / e * (e * n) + (u % e * n + s) ≡ u * n + s = in-block n e u s in
-        ap (λ (y : ℕ). getD (gatherAll n (e * n) wide span D k row) y 0) (sym g)
-        ∙ gather-at n (e * n) wide span D k row (omega arith) (u / e) (u % e * n + s)
+        ap (λ (y : ℕ). getD (gatherAll n (e * n) wide span D row) y 0) (sym g)
+        ∙ gather-at n (e * n) wide span D row (omega arith) (u / e) (u % e * n + s)
         (block-there n e u s columns wide he hs hu all-wide) (byte-in-block n e u s he hs)
-        ∙ ap (λ (y : ℕ). gatheredByte n (e * n) span D k y (u % e * n + s)) g
+        ∙ ap (λ (y : ℕ). gatheredByte n span D y (u % e * n + s)) g
 
-    pub passes-products : Products (fieldOf f) n columns ds a row (gatherAll n (e * n) wide span D k row)
+    pub passes-products : Products (fieldOf f) n columns ds a row (gatherAll n (e * n) wide span D row)
     unfolding product Z P entry
     passes-products =
         record {
           at = λ u s hu hs.
               let q : ℕ = u % e * n + s in
-              let which : q % n ≡ s = share-of n (u % e) s hs in
-              let there : q < e * n = byte-in-block n e u s he hs in
               ap (λ (y : ℕ). y % fieldOf f .q) (byte u s hu hs)
-              ∙ gathered-sum B n (e * n) span D k (u * n + s) q s (Z u) (P u) hs
+              ∙ gathered-sum B n span D (u * n + s) q s (Z u) (P u) hs
               (own-term n span columns C D Z P T own pair nothing joins near far u s hu hs)
               (λ i hi. first-term n span columns C D Z P T own pair nothing joins near far u s i hu hs hi)
               (λ i hi. second-term n span columns C D Z P T own pair nothing joins near far u s i hu hs hi)
-              (λ d l g. chooses d q (omega arith) there ∙ later-chosen n d q l (omega arith))
-              (λ d l g. chooses d q g there ∙ later-left n d q (omega arith))
+              (share-of n (u % e) s hs)
               ∙ share-law B n (drawAt (fieldOf f) (drop (u * pairs n) ds)) (Z u) (P u)
               (λ x h. ap (λ (y : ℕ). y % fieldOf f .q) (sym (getD-drop (u * pairs n) ds x 0)) ∙ sym (mod-mod _ (fieldOf f .q))) s hs
               ∙ ap (λ (y : ℕ). getD (productOver (fieldOf f) (drawAt (fieldOf f) (drop (u * pairs n) ds)) (P u) y) s 0 % fieldOf f .q) (sym shares);
@@ -148,7 +143,7 @@ module _ {f : ℕ} (B : Binary f) (n columns turns r j blocks e wide span : ℕ)
     -- the same of what each pass leaves, as a caller has it: replaced here, where few facts stand by, and not in each caller's goal
     pub passes-left : (c₁ m₁ m₂ c₂ out : List ℕ)
         → c₁ ≡ spreadAll n columns span ds c → m₁ ≡ repeated n turns a m → m₂ ≡ doubledRows (bits f) r m₁
-        → c₂ ≡ allProducts (bits f) n (j * n) r blocks span row m₂ c₁ → out ≡ gatherAll n (e * n) wide span c₂ k row
+        → c₂ ≡ allProducts (bits f) n (j * n) r blocks span row m₂ c₁ → out ≡ gatherAll n (e * n) wide span c₂ row
         → Products (fieldOf f) n columns ds a row out
     unfolding D C M stream
     passes-left c₁ m₁ m₂ c₂ out ec em ed ep eg = rw (eg, ep, ed, em, ec) passes-products

@@ -11,12 +11,12 @@ use Rattle.sharing.proofs.Pairs.{run-holds}
 use Rattle.row.proofs.Places.{place-in}
 use Rattle.row.specs.Code.Gather.{gatheredByte, blockTurn, gatherBlock, gatherAll}
 
-module _ (n l blocks span : ℕ) (c k out : List ℕ) where
+module _ (n l blocks span : ℕ) (c out : List ℕ) where
   -- after u blocks, and j bytes of the next one
   record Filled (u j : ℕ) (y : List ℕ) : Type 0 where
     size : length y ≡ length out
-    done : (v q : ℕ) → v < u → q < l → getD y (v * l + q) 0 ≡ gatheredByte n l span c k (v * l + q) q
-    begun : (q : ℕ) → q < j → getD y (u * l + q) 0 ≡ gatheredByte n l span c k (u * l + q) q
+    done : (v q : ℕ) → v < u → q < l → getD y (v * l + q) 0 ≡ gatheredByte n span c (v * l + q) q
+    begun : (q : ℕ) → q < j → getD y (u * l + q) 0 ≡ gatheredByte n span c (u * l + q) q
 
   -- a block is whole
   block : (u : ℕ) (y : List ℕ) → Filled u l y → Filled (suc u) 0 y
@@ -31,7 +31,7 @@ module _ (n l blocks span : ℕ) (c k out : List ℕ) where
       }
 
   module _ (room : blocks * l ≤ length out) where
-    next : (u j : ℕ) → u < blocks → j < l → (y : List ℕ) → Filled u j y → Filled u (suc j) (set y (u * l + j) (gatheredByte n l span c k (u * l + j) j))
+    next : (u j : ℕ) → u < blocks → j < l → (y : List ℕ) → Filled u j y → Filled u (suc j) (set y (u * l + j) (gatheredByte n span c (u * l + j) j))
     next u j hu hj y D =
         record {
           size = length-set y (u * l + j) _ ∙ D .size;
@@ -43,13 +43,13 @@ module _ (n l blocks span : ℕ) (c k out : List ℕ) where
           ];
         }
 
-    all : Filled blocks 0 (gatherAll n l blocks span c k out)
+    all : Filled blocks 0 (gatherAll n l blocks span c out)
     unfolding gatherAll gatherBlock
     all =
-        run-holds (λ (u : ℕ) (y : List ℕ). Filled u 0 y) (gatherBlock n l span c k) blocks
-        (λ u hu y D. block u _ (run-holds (λ (j : ℕ) (y : List ℕ). Filled u j y) (blockTurn n l span c k (u * l)) l (λ j hj y D. next u j hu hj y D) y D))
+        run-holds (λ (u : ℕ) (y : List ℕ). Filled u 0 y) (gatherBlock n l span c) blocks
+        (λ u hu y D. block u _ (run-holds (λ (j : ℕ) (y : List ℕ). Filled u j y) (blockTurn n span c (u * l)) l (λ j hj y D. next u j hu hj y D) y D))
         out
         (record { size = refl; done = λ v q hv hq. absurd (omega arith); begun = λ q hq. absurd (omega arith) })
 
-    pub gather-at : (u q : ℕ) → u < blocks → q < l → getD (gatherAll n l blocks span c k out) (u * l + q) 0 ≡ gatheredByte n l span c k (u * l + q) q
+    pub gather-at : (u q : ℕ) → u < blocks → q < l → getD (gatherAll n l blocks span c out) (u * l + q) 0 ≡ gatheredByte n span c (u * l + q) q
     gather-at = all .done

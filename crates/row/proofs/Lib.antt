@@ -3,7 +3,6 @@ pub mod Streaming
 pub mod Cells
 pub mod Gathering
 pub mod GatherLaw
-pub mod Choices
 pub mod Producing
 pub mod TermLaw
 pub mod OneTurn

@@ -20,10 +20,8 @@ ghost use Rattle.sharing.specs.Bounds.{mostWidth, rowRoom};
 ghost use Rattle.row.specs.Code.Streams.{doubled, onceTurn, repeated, doubledRows};
 ghost use Rattle.row.specs.Code.Spread.{spreadTurn, spreadAll};
 ghost use Rattle.row.specs.Code.Products.{term, byteProducts, productByteTurn, allProducts};
-ghost use Rattle.row.specs.Code.Gather.{gatheredByte, blockTurn, gatherAll};
+ghost use Rattle.row.specs.Code.Gather.{later, gatheredByte, blockTurn, gatherAll};
 ghost use Rattle.row.specs.Rows.{Products};
-
-mod later;
 
 // Room for a row, and for n work rows: whole blocks of 16 or 48 bytes.
 pub const ROW_ROOM: usize = (sharing::MOST_WIDTH * 4 + 15) / 16 * 16;
@@ -199,11 +197,20 @@ fn products(
     }
 }
 
+// All ones where byte q of a block has a share d before it in its own column, and else 0. Worked out and not looked up (R-4): n, d and q are
+// known where the block's loop is unrolled or made of vectors.
+fn later(n: usize, d: usize, q: usize) -> u8
+    requires { ⌜ 1 ≤ n ⌝ }
+    ensures { λ r. ⌜ r ≡ later n d q ⌝ }
+{
+    if d <= q % n { 255 } else { 0 }
+}
+
 // Byte o, which is byte q of its block. What stands in row d and what stands d places before in row n - d join each other first: the draw
 // is in one of the two.
-fn gather_byte(n: usize, l: usize, span: usize, c: &[u8], k: &[u8], o: usize, q: usize) -> u8
-    requires { ⌜ (1 ≤ n) × (n ≤ 4) × (q < l) × (l ≤ 48) × (n * l ≤ length (now k)) × (n ≤ span) × (o < span) × (span ≤ rowRoom) × (n * span ≤ length (now c)) ⌝ }
-    ensures { λ r. ⌜ r ≡ gatheredByte n l span (now (c .entry)) (now (k .entry)) o q ⌝ }
+fn gather_byte(n: usize, span: usize, c: &[u8], o: usize, q: usize) -> u8
+    requires { ⌜ (1 ≤ n) × (n ≤ 4) × (n ≤ span) × (o < span) × (span ≤ rowRoom) × (n * span ≤ length (now c)) ⌝ }
+    ensures { λ r. ⌜ r ≡ gatheredByte n span (now (c .entry)) o q ⌝ }
 {
     let mut v = c[o];
     let e = n - 1;
@@ -211,30 +218,29 @@ fn gather_byte(n: usize, l: usize, span: usize, c: &[u8], k: &[u8], o: usize, q:
         let d = e - i;
         let g = d * span + o;
         let h = (i + 1) * span + o - d;
-        let t = d * l + q;
-        v ^= (c[g] ^ c[h]) & k[t];
+        v ^= (c[g] ^ c[h]) & later(n, d, q);
     }
     v
 }
 
 // The block of l bytes that begins at `at`.
-fn gather_block(n: usize, l: usize, span: usize, out: &mut [u8], c: &[u8], k: &[u8], at: usize)
-    requires { ⌜ (1 ≤ n) × (n ≤ 4) × (l ≤ 48) × (n * l ≤ length (now k)) × (n ≤ span) × (at + l ≤ span) × (span ≤ rowRoom) × (n * span ≤ length (now c)) × (span ≤ length (now out)) ⌝ }
-    ensures { λ r. ⌜ now (out .exit) ≡ run (blockTurn n l span (now (c .entry)) (now (k .entry)) at) l (now (out .entry)) ⌝ }
+fn gather_block(n: usize, l: usize, span: usize, out: &mut [u8], c: &[u8], at: usize)
+    requires { ⌜ (1 ≤ n) × (n ≤ 4) × (n ≤ span) × (at + l ≤ span) × (span ≤ rowRoom) × (n * span ≤ length (now c)) × (span ≤ length (now out)) ⌝ }
+    ensures { λ r. ⌜ now (out .exit) ≡ run (blockTurn n span (now (c .entry)) at) l (now (out .entry)) ⌝ }
 {
     for q in 0..l {
         let o = at + q;
-        out[o] = gather_byte(n, l, span, c, k, o, q);
+        out[o] = gather_byte(n, span, c, o, q);
     }
 }
 
-fn gather(n: usize, l: usize, blocks: usize, span: usize, out: &mut [u8], c: &[u8], k: &[u8])
-    requires { ⌜ (1 ≤ n) × (n ≤ 4) × (l ≤ 48) × (n * l ≤ length (now k)) × (n ≤ span) × (blocks * l ≤ span) × (span ≤ rowRoom) × (n * span ≤ length (now c)) × (span ≤ length (now out)) ⌝ }
-    ensures { λ r. ⌜ now (out .exit) ≡ gatherAll n l blocks span (now (c .entry)) (now (k .entry)) (now (out .entry)) ⌝ }
+fn gather(n: usize, l: usize, blocks: usize, span: usize, out: &mut [u8], c: &[u8])
+    requires { ⌜ (1 ≤ n) × (n ≤ 4) × (n ≤ span) × (blocks * l ≤ span) × (span ≤ rowRoom) × (n * span ≤ length (now c)) × (span ≤ length (now out)) ⌝ }
+    ensures { λ r. ⌜ now (out .exit) ≡ gatherAll n l blocks span (now (c .entry)) (now (out .entry)) ⌝ }
 {
     let mut at: usize = 0;
     for u in 0..blocks {
-        gather_block(n, l, span, out, c, k, at);
+        gather_block(n, l, span, out, c, at);
         at += l;
     }
 }
@@ -252,12 +258,11 @@ fn product_16_2(columns: usize, row: &mut [u8], a: &[u8], mask: &[u8])
     let span = wide * 48;
     let mut c = [0u8; WORK_ROOM_2];
     let mut m = [0u8; 128];
-    let k = later::LATER_2;
     spread(2, 1, columns, span, &mut c[..], mask);
     repeat(2, 16, &mut m[..], a);
     double_rows(4, 32, &mut m[..]);
     products(4, 2, 16, 32, blocks, span, &mut c[..], row, &m[..]);
-    gather(2, 48, wide, span, row, &c[..], &k[..]);
+    gather(2, 48, wide, span, row, &c[..]);
 }
 
 fn product_256_2(columns: usize, row: &mut [u8], a: &[u8], mask: &[u8])
@@ -271,12 +276,11 @@ fn product_256_2(columns: usize, row: &mut [u8], a: &[u8], mask: &[u8])
     let span = wide * 48;
     let mut c = [0u8; WORK_ROOM_2];
     let mut m = [0u8; 256];
-    let k = later::LATER_2;
     spread(2, 1, columns, span, &mut c[..], mask);
     repeat(2, 16, &mut m[..], a);
     double_rows(8, 32, &mut m[..]);
     products(8, 2, 16, 32, blocks, span, &mut c[..], row, &m[..]);
-    gather(2, 48, wide, span, row, &c[..], &k[..]);
+    gather(2, 48, wide, span, row, &c[..]);
 }
 
 fn product_16_3(columns: usize, row: &mut [u8], a: &[u8], mask: &[u8])
@@ -290,12 +294,11 @@ fn product_16_3(columns: usize, row: &mut [u8], a: &[u8], mask: &[u8])
     let span = wide * 48;
     let mut c = [0u8; WORK_ROOM_3];
     let mut m = [0u8; 256];
-    let k = later::LATER_3;
     spread(3, 3, columns, span, &mut c[..], mask);
     repeat(3, 21, &mut m[..], a);
     double_rows(4, 64, &mut m[..]);
     products(4, 3, 48, 64, blocks, span, &mut c[..], row, &m[..]);
-    gather(3, 48, wide, span, row, &c[..], &k[..]);
+    gather(3, 48, wide, span, row, &c[..]);
 }
 
 fn product_256_3(columns: usize, row: &mut [u8], a: &[u8], mask: &[u8])
@@ -309,12 +312,11 @@ fn product_256_3(columns: usize, row: &mut [u8], a: &[u8], mask: &[u8])
     let span = wide * 48;
     let mut c = [0u8; WORK_ROOM_3];
     let mut m = [0u8; 512];
-    let k = later::LATER_3;
     spread(3, 3, columns, span, &mut c[..], mask);
     repeat(3, 21, &mut m[..], a);
     double_rows(8, 64, &mut m[..]);
     products(8, 3, 48, 64, blocks, span, &mut c[..], row, &m[..]);
-    gather(3, 48, wide, span, row, &c[..], &k[..]);
+    gather(3, 48, wide, span, row, &c[..]);
 }
 
 fn product_16_4(columns: usize, row: &mut [u8], a: &[u8], mask: &[u8])
@@ -328,12 +330,11 @@ fn product_16_4(columns: usize, row: &mut [u8], a: &[u8], mask: &[u8])
     let span = wide * 16;
     let mut c = [0u8; WORK_ROOM_4];
     let mut m = [0u8; 128];
-    let k = later::LATER_4;
     spread(4, 6, columns, span, &mut c[..], mask);
     repeat(4, 8, &mut m[..], a);
     double_rows(4, 32, &mut m[..]);
     products(4, 4, 16, 32, blocks, span, &mut c[..], row, &m[..]);
-    gather(4, 16, wide, span, row, &c[..], &k[..]);
+    gather(4, 16, wide, span, row, &c[..]);
 }
 
 fn product_256_4(columns: usize, row: &mut [u8], a: &[u8], mask: &[u8])
@@ -347,12 +348,11 @@ fn product_256_4(columns: usize, row: &mut [u8], a: &[u8], mask: &[u8])
     let span = wide * 16;
     let mut c = [0u8; WORK_ROOM_4];
     let mut m = [0u8; 256];
-    let k = later::LATER_4;
     spread(4, 6, columns, span, &mut c[..], mask);
     repeat(4, 8, &mut m[..], a);
     double_rows(8, 32, &mut m[..]);
     products(8, 4, 16, 32, blocks, span, &mut c[..], row, &m[..]);
-    gather(4, 16, wide, span, row, &c[..], &k[..]);
+    gather(4, 16, wide, span, row, &c[..]);
 }
 
 fn product_16(n: usize, columns: usize, row: &mut [u8], a: &[u8], mask: &[u8])

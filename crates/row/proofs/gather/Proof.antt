@@ -12,14 +12,14 @@ use Rattle.row.proofs.gather.Statement.{statement}
 use Rattle.row.proofs.gather.Tie as tie
 
 abbrev Inv-loop : tie.InvT-loop
-Inv-loop n l blocks span out₀ c k at₀ u₀ out at u = (u ≤ blocks) × (at ≡ u * l) × (length out ≡ length out₀) × (out ≡ run (gatherBlock n l span c k) u out₀)
+Inv-loop n l blocks span out₀ c at₀ u₀ out at u = (u ≤ blocks) × (at ≡ u * l) × (length out ≡ length out₀) × (out ≡ run (gatherBlock n l span c) u out₀)
 
 abbrev μ-loop : tie.MeasureT-loop
-μ-loop n l blocks span out₀ c k at₀ u₀ out at u = blocks - u
+μ-loop n l blocks span out₀ c at₀ u₀ out at u = blocks - u
 
 -- one more block is there
-room : (c : tie.In-loop Inv-loop μ-loop) → let x = c .before .before .before .before .before .args in c .before .loop .at + x .l ≤ x .span
-room c = let l = c .before .loop in let x = c .before .before .before .before .before .args in taken-room (l .at) (l .u) (x .l) (x .blocks) (l .inv .1) (omega arith) (omega arith)
+room : (c : tie.In-loop Inv-loop μ-loop) → let x = c .before .before .before .before .args in c .before .loop .at + x .l ≤ x .span
+room c = let l = c .before .loop in let x = c .before .before .before .before .args in taken-room (l .at) (l .u) (x .l) (x .blocks) (l .inv .1) (omega arith) (omega arith)
 
 loop-holds : tie.Need-loop-holds Inv-loop μ-loop
 loop-holds c = (search needs, search needs, search needs, run-none _ _)
@@ -38,7 +38,7 @@ loop-less c = search needs
 
 loop-again : tie.Need-loop-again Inv-loop μ-loop
 unfolding gatherBlock
-loop-again c = let l = c .before .before .before .before .before .loop in let x = c .before .before .before .before .before .before .before .before .before .args in (search needs, taken-more (l .at) (l .u) (x .l) (l .inv .1), search needs, run-next _ _ _ _ _ (l .inv .3) (rw (c .before .before .gather-block .ensures, l .inv .1)))
+loop-again c = let l = c .before .before .before .before .before .loop in let x = c .before .before .before .before .before .before .before .before .args in (search needs, taken-more (l .at) (l .u) (x .l) (l .inv .1), search needs, run-next _ _ _ _ _ (l .inv .3) (rw (c .before .before .gather-block .ensures, l .inv .1)))
 
 same-length : tie.Need-same-length Inv-loop μ-loop
 same-length c = search needs

@@ -12,10 +12,10 @@ use Rattle.row.proofs.gather_block.Statement.{statement}
 use Rattle.row.proofs.gather_block.Tie as tie
 
 abbrev Inv-loop : tie.InvT-loop
-Inv-loop n l span out₀ c k at q₀ out q = (q ≤ l) × (length out ≡ length out₀) × (out ≡ run (blockTurn n l span c k at) q out₀)
+Inv-loop n l span out₀ c at q₀ out q = (q ≤ l) × (length out ≡ length out₀) × (out ≡ run (blockTurn n span c at) q out₀)
 
 abbrev μ-loop : tie.MeasureT-loop
-μ-loop n l span out₀ c k at q₀ out q = l - q
+μ-loop n l span out₀ c at q₀ out q = l - q
 
 loop-holds : tie.Need-loop-holds Inv-loop μ-loop
 loop-holds c = (search needs, search needs, run-none _ _)

@@ -13,23 +13,20 @@ use Rattle.row.proofs.gather_byte.Statement.{statement}
 use Rattle.row.proofs.gather_byte.Tie as tie
 
 abbrev Inv-loop : tie.InvT-loop
-Inv-loop n l span c k o q v₀ e i₀ v i = (i ≤ e) × (v ≡ run (gatherTurn n l span c k o q) i (getD c o 0))
+Inv-loop n span c o q v₀ e i₀ v i = (i ≤ e) × (v ≡ run (gatherTurn n span c o q) i (getD c o 0))
 
 abbrev μ-loop : tie.MeasureT-loop
-μ-loop n l span c k o q v₀ e i₀ v i = e - i
+μ-loop n span c o q v₀ e i₀ v i = e - i
 
--- the pair's two terms, and what chooses it, are there
-first : (c : tie.In-loop Inv-loop μ-loop) → let x = c .before .before .before .args in (x .n - 1 - c .before .loop .i) * x .span + x .o < length (x .c .now)
-first c = let x = c .before .before .before .args in omega (arith, place-in (x .n) (x .span) (x .n - 1 - c .before .loop .i) (x .o) (omega arith) (omega arith))
+-- the pair's two terms are there
+first : (c : tie.In-loop Inv-loop μ-loop) → let x = c .before .before .before .before .args in (x .n - 1 - c .before .loop .i) * x .span + x .o < length (x .c .now)
+first c = let x = c .before .before .before .before .args in omega (arith, place-in (x .n) (x .span) (x .n - 1 - c .before .loop .i) (x .o) (omega arith) (omega arith))
 
-second : (c : tie.In-loop Inv-loop μ-loop) → let x = c .before .before .before .args in (c .before .loop .i + 1) * x .span + x .o < length (x .c .now)
-second c = let x = c .before .before .before .args in omega (arith, place-in (x .n) (x .span) (c .before .loop .i + 1) (x .o) (omega arith) (omega arith))
-
-choice : (c : tie.In-loop Inv-loop μ-loop) → let x = c .before .before .before .args in (x .n - 1 - c .before .loop .i) * x .l + x .q < length (x .k .now)
-choice c = let x = c .before .before .before .args in omega (arith, place-in (x .n) (x .l) (x .n - 1 - c .before .loop .i) (x .q) (omega arith) (omega arith))
+second : (c : tie.In-loop Inv-loop μ-loop) → let x = c .before .before .before .before .args in (c .before .loop .i + 1) * x .span + x .o < length (x .c .now)
+second c = let x = c .before .before .before .before .args in omega (arith, place-in (x .n) (x .span) (c .before .loop .i + 1) (x .o) (omega arith) (omega arith))
 
 shared-slice-read-v : tie.Need-shared-slice-read-v Inv-loop μ-loop
-shared-slice-read-v c = let x = c .before .args in omega (arith, place-in (x .n) (x .span) 0 (x .o) (omega arith) (omega arith))
+shared-slice-read-v c = let x = c .before .before .args in omega (arith, place-in (x .n) (x .span) 0 (x .o) (omega arith) (omega arith))
 
 sub-e : tie.Need-sub-e Inv-loop μ-loop
 sub-e c = search needs
@@ -56,13 +53,7 @@ add-h-2 : tie.Need-add-h-2 Inv-loop μ-loop
 add-h-2 c = omega (arith, second c)
 
 sub-h : tie.Need-sub-h Inv-loop μ-loop
-sub-h c = let x = c .before .before .before .args in omega (arith, row-room (x .n) (c .before .loop .i) (x .span) (omega arith))
-
-mul-t : tie.Need-mul-t Inv-loop μ-loop
-mul-t c = omega (arith, choice c)
-
-add-t : tie.Need-add-t Inv-loop μ-loop
-add-t c = omega (arith, choice c)
+sub-h c = let x = c .before .before .before .before .args in omega (arith, row-room (x .n) (c .before .loop .i) (x .span) (omega arith))
 
 shared-slice-read-v-2 : tie.Need-shared-slice-read-v-2 Inv-loop μ-loop
 shared-slice-read-v-2 c = omega (arith, first (c .before))
@@ -70,8 +61,8 @@ shared-slice-read-v-2 c = omega (arith, first (c .before))
 shared-slice-read-v-3 : tie.Need-shared-slice-read-v-3 Inv-loop μ-loop
 shared-slice-read-v-3 c = omega (arith, second (c .before .before))
 
-shared-slice-read-v-4 : tie.Need-shared-slice-read-v-4 Inv-loop μ-loop
-shared-slice-read-v-4 c = omega (arith, choice (c .before .before .before))
+later-requires : tie.Need-later-requires Inv-loop μ-loop
+later-requires c κs = search needs
 
 add-i : tie.Need-add-i Inv-loop μ-loop
 add-i c = search needs
@@ -81,7 +72,7 @@ loop-less c = search needs
 
 loop-again : tie.Need-loop-again Inv-loop μ-loop
 unfolding gatherTurn
-loop-again c = let l = c .before .before .before .before .loop in (search needs, run-next _ _ _ _ _ (l .inv .1) refl)
+loop-again c = let l = c .before .before .before .before .loop in (search needs, run-next _ _ _ _ _ (l .inv .1) (rw (c .later .ensures)))
 
 returns : tie.Need-returns Inv-loop μ-loop
 unfolding gatheredByte
@@ -103,11 +94,9 @@ gather-byte-spec =
     mul-h
     add-h-2
     sub-h
-    mul-t
-    add-t
     shared-slice-read-v-2
     shared-slice-read-v-3
-    shared-slice-read-v-4
+    later-requires
     add-i
     loop-less
     loop-again
