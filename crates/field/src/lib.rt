@@ -80,7 +80,8 @@ fn inv16(a: u8) -> u8
     INV16[i]
 }
 
-// In a loop: written out, eleven products take more room than the table of inverses that they stand for.
+// In a loop: written out, eleven products take more room than the table of inverses that they stand for. The chain is copied before it, since
+// a constant array is built anew at each use.
 fn power254(a: u8) -> u8
     ensures { λ r. ⌜ r ≡ power254 a ⌝ }
 {
