@@ -125,18 +125,18 @@ static uint64_t without_lengths(const char *name)
 /* All the single steps together. */
 static uint64_t single_steps(void)
 {
-    uint64_t record[6] = {0}, sum, code;
+    uint64_t record[HZ_RECORD_WORDS] = {0}, sum, code;
     lend();
     uint64_t at_record = x86_lend(machine, record, sizeof record);
-    x86_call(machine, "hz_start", (uint64_t[]){field, n, m, at_record, 6, at_answer, 4}, 7);
+    x86_call(machine, "hz_start", (uint64_t[]){field, n, m, at_record, HZ_RECORD_WORDS, at_answer, 4}, 7);
     sum = machine->counted;
     do {
         x86_take(machine, at_record, record, sizeof record);
         uint64_t masks = model_mask_draws(field, n, m, record[HZ_STEP], record[HZ_J]);
         uint64_t nonzeros = model_nonzero_draws(n, record[HZ_STEP]);
         code = x86_call(machine, "hz_step",
-                        (uint64_t[]){at_record, 6, at_table, table_len, at_x, m, at_mask, masks, at_nonzero, nonzeros,
-                                     at_answer, 4},
+                        (uint64_t[]){at_record, HZ_RECORD_WORDS, at_table, table_len, at_x, m, at_mask, masks,
+                                     at_nonzero, nonzeros, at_answer, 4},
                         12);
         sum += machine->counted;
         at_mask += masks;

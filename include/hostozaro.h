@@ -48,6 +48,9 @@
  * part that is needed. hz_step wants exactly the draws of its step, and hz_wanted
  * tells beforehand how many these are.
  * hz_counts tells how many draws a full solve needs. A deal needs m(m+1)(n-1).
+ * A record counts the draws that its steps took. So where both tapes of a full
+ * solve are fetched beforehand, words HZ_MASK_TAKEN and HZ_NONZERO_TAKEN of the
+ * record say where on them the next step's draws begin.
  *
  *
  * EXCHANGE RECORD
@@ -116,6 +119,8 @@
  *        inside a tagged field, or the length
  *        in it does not suit its tag
  *    18  hz_read: bytes after the end           the first one's offset
+ *    19  record: its counters are not the       0
+ *        draws of the steps before its place
  *
  * 13 is none of a call's: desk, which prints the counts of an order, gives it.
  * Where several apply, the first in the call's own order is given.
@@ -134,9 +139,9 @@
 extern "C" {
 #endif
 
-#define HZ_VERSION "0.12" /* ./install takes it from here for pkg-config */
+#define HZ_VERSION "0.13" /* ./install takes it from here for pkg-config */
 
-#define HZ_RECORD_WORDS 6
+#define HZ_RECORD_WORDS 8
 #define HZ_ANSWER_WORDS 4
 
 #define HZ_TABLE_AT     16 /* where the table begins in an exchange record */
@@ -157,12 +162,14 @@ extern "C" {
 #define HZ_BAD_WORDS 99 /* record or answer of wrong length: nothing was written */
 
 /* The words of a record, and what its word HZ_STEP may say. */
-#define HZ_FIELD  0
-#define HZ_SHARES 1
-#define HZ_SIZE   2
-#define HZ_STEP   3
-#define HZ_J      4
-#define HZ_K      5
+#define HZ_FIELD         0
+#define HZ_SHARES        1
+#define HZ_SIZE          2
+#define HZ_STEP          3
+#define HZ_J             4
+#define HZ_K             5
+#define HZ_MASK_TAKEN    6 /* the draws of the steps before this place, a stop's */
+#define HZ_NONZERO_TAKEN 7 /* own Check included, of each tape */
 
 #define HZ_MIX        0 /* j and k, 1 <= j < k <= m */
 #define HZ_CHECK      1 /* j, 1 <= j <= m; k is 0 */
@@ -174,8 +181,8 @@ extern "C" {
 
 /* A fresh record, at the first step of a system of these sizes.
  *
- * HZ_FRESH: record becomes field, shares, size, and the first place: Check(1)
- * for size 1, else Mix(1,2).
+ * HZ_FRESH: record becomes field, shares, size, the first place (Check(1) for
+ * size 1, else Mix(1,2)), and no draws taken.
  * Refusals, in order: 1, 2, 3. */
 uint64_t hz_start(uint64_t field, uint64_t shares, uint64_t size,
                   uint64_t *record, size_t record_len,
@@ -184,13 +191,13 @@ uint64_t hz_start(uint64_t field, uint64_t shares, uint64_t size,
 /* What the step that the record stands at must be lent by the next hz_step.
  *
  * HZ_WANTED: answer: its mask draws, its nonzero draws. The record is only read.
- * Refusals, in order: 1, 2, 3 (the record's numbers), 10, 11. */
+ * Refusals, in order: 1, 2, 3 (the record's numbers), 10, 19, 11. */
 uint64_t hz_wanted(const uint64_t *record, size_t record_len,
                    uint64_t *answer, size_t answer_len);
 
 /* Does the step that the record stands at, and moves the record to the next
- * place. The steps, with L = m+2-j, and the draws that each must be lent, as
- * hz_wanted tells them:
+ * place: the draws lent are added to its counters. The steps, with L = m+2-j, and
+ * the draws that each must be lent, as hz_wanted tells them:
  *
  *     step        does                                mask draws            nonzero
  *     Mix(j,k)    adds row k to row j if T[j,j] is 0  f(n-1+N) + L·N        0
@@ -213,12 +220,14 @@ uint64_t hz_wanted(const uint64_t *record, size_t record_len,
  *     A is the first that is a combination of the columns before it (or zero, for
  *     j = 1). Of a record or a table that a host made up it says nothing more.
  * Refusals, in order: 1, 2, 3 (the record's numbers), 4 (table m(m+1)n), 5
- *     (solution m, whatever the step), 10, 11, 6 (the whole table), 7, 14, 8, 15, 9
- *     (place within the bytes lent), 12.
+ *     (solution m, whatever the step), 10, 19, 11, 6 (the whole table), 7, 14, 8,
+ *     15, 9 (place within the bytes lent), 12.
  *     10 is any place that the list above has not: another step number, a j or k
  *     outside its range, or not 0 where the step carries none; also stopped at a
- *     column outside 1..m. 10 and 12 cannot come up while a record that hz_start
- *     made and its table are touched by hz_step alone. */
+ *     column outside 1..m. 19 is any pair of counters but the sums of the draws of
+ *     the steps before the place: of all up to and with Check(j) where it is stopped
+ *     at j, of the whole list where it is done. 10, 12 and 19 cannot come up while a
+ *     record that hz_start made and its table are touched by hz_step alone. */
 uint64_t hz_step(uint64_t *record, size_t record_len,
                  uint8_t *table, size_t table_len,
                  uint8_t *solution, size_t solution_len,
@@ -285,7 +294,8 @@ uint64_t hz_gather(uint64_t field, uint64_t shares, uint64_t size,
 /* What a full solve takes.
  *
  * HZ_COUNTS: answer: m(m+2) steps, the mask draws summed over the list of steps,
- *     m(n-1) nonzero draws.
+ *     m(n-1) nonzero draws. What a record's counters have not reached of these is
+ *     what is still to come, where the system does not stop.
  * Refusals, in order: 1, 2, 3. */
 uint64_t hz_counts(uint64_t field, uint64_t shares, uint64_t size,
                    uint64_t *answer, size_t answer_len);
@@ -336,4 +346,5 @@ uint64_t hz_read(const uint8_t *input, size_t input_len,
  *     default:         refused(answer);
  *     }
  *
- * host_example/solve.c is a program of this kind, and drives single steps too. */
+ * host_example/solve.c is a program of this kind, and drives single steps too;
+ * host_example/ahead.c drives them from long tapes that are fetched ahead. */

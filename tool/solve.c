@@ -54,6 +54,9 @@ static void say_lent(void)
         say_cell(answer[1], answer[2], answer[3]);
         fputs(" is a pivot of 0", stderr);
         break;
+    case 19:
+        fputs("the record's counters do not match its place", stderr);
+        break;
     default:
         say_buffer();
     }
@@ -201,25 +204,28 @@ static ending in_one_call(void)
     return (ending){0, answer[0], answer[1], answer[2]};
 }
 
-/* How far the steps have come, where somebody watches; all 0 wipes the line. */
-static void show_progress(ending so_far, uint64_t steps)
+/* How far the steps have come on the way to a full solve, where somebody watches; all 0
+ * wipes the line. The largest order's last line has 77 columns. */
+static void show_progress(ending so_far, ending full)
 {
-    static const char bar[] = "################";
+    static const char bar[] = "############";
     if (!isatty(STDERR_FILENO))
         return;
     if (so_far.steps == 0)
         fprintf(stderr, "\r%79s\r", "");
     else
-        fprintf(stderr, "\r[%-16.*s] step %" PRIu64 " of %" PRIu64 ", %" PRIu64 " mask draws, %" PRIu64 " nonzero draws",
-                (int)(16 * so_far.steps / steps), bar, so_far.steps, steps, so_far.mask_draws, so_far.nonzero_draws);
+        fprintf(stderr,
+                "\r[%-12.*s] step %" PRIu64 " of %" PRIu64 ", mask %" PRIu64 " of %" PRIu64 ", nonzero %" PRIu64
+                " of %" PRIu64,
+                (int)(12 * so_far.steps / full.steps), bar, so_far.steps, full.steps, so_far.mask_draws,
+                full.mask_draws, so_far.nonzero_draws, full.nonzero_draws);
 }
 
 static ending by_steps(void)
 {
     uint64_t record[HZ_RECORD_WORDS], code;
-    ending so_far = {0};
     ask_counts(size);
-    uint64_t steps = answer[0];
+    ending so_far = {0}, full = {0, answer[0], answer[1], answer[2]};
     must(hz_start(field, shares, size, record, HZ_RECORD_WORDS, answer, HZ_ANSWER_WORDS), HZ_FRESH);
     do {
         must(hz_wanted(record, HZ_RECORD_WORDS, answer, HZ_ANSWER_WORDS), HZ_WANTED);
@@ -229,12 +235,10 @@ static ending by_steps(void)
                        nonzero_len, answer, HZ_ANSWER_WORDS);
         take_back(mask, mask_len);
         take_back(nonzero, nonzero_len);
-        so_far.steps++;
-        so_far.mask_draws += mask_len;
-        so_far.nonzero_draws += nonzero_len;
-        show_progress(so_far, steps);
+        so_far = (ending){0, so_far.steps + 1, record[HZ_MASK_TAKEN], record[HZ_NONZERO_TAKEN]};
+        show_progress(so_far, full);
     } while (code == HZ_MOVED || code == HZ_OPENED);
-    show_progress((ending){0}, steps);
+    show_progress((ending){0}, full);
     if (code == HZ_STOPPED)
         so_far.stopped = answer[0];
     else

@@ -512,6 +512,21 @@ static uint64_t absurd(void)
     return one_in(8) ? any() : numbers[below(sizeof numbers / sizeof numbers[0])];
 }
 
+static bool is_field(uint64_t number)
+{
+    return number == 16 || number == 256;
+}
+
+static bool is_number_of_shares(uint64_t number)
+{
+    return number >= 2 && number <= 4;
+}
+
+static bool is_size(uint64_t number)
+{
+    return number >= 1 && number <= 96;
+}
+
 static void fresh_words(void)
 {
     fill(record.lent, record.capacity * record.width);
@@ -519,10 +534,24 @@ static void fresh_words(void)
     answer.len = HZ_ANSWER_WORDS;
 }
 
+/* The record's counters become those of its place. Where there is no such place, for this
+ * size or at all, they stay as they are. */
+static void match_counters(void)
+{
+    uint64_t *r = words(&record), masks, nonzeros;
+    if (!is_size(r[HZ_SIZE])
+        || !model_taken(r[HZ_FIELD], r[HZ_SHARES], r[HZ_SIZE], r[HZ_STEP], r[HZ_J], r[HZ_K], &masks, &nonzeros))
+        return;
+    r[HZ_MASK_TAKEN] = masks;
+    r[HZ_NONZERO_TAKEN] = nonzeros;
+}
+
+/* A record of the next call's numbers at this place. */
 static void set_record(uint64_t step, uint64_t j, uint64_t k)
 {
     uint64_t place[] = {field, shares, size, step, j, k};
     memcpy(record.lent, place, sizeof place);
+    match_counters();
 }
 
 /* A length near the right one, or far from it. */
@@ -566,7 +595,7 @@ static void plant_large(buffer *b, size_t at)
 static void spoil(void)
 {
     size_t which;
-    switch (below(17)) {
+    switch (below(18)) {
     case 0:
         stretch(&table, wrong_length(table.len));
         break;
@@ -595,12 +624,13 @@ static void spoil(void)
         plant_zero_draw();
         break;
     case 11:
-        which = below(HZ_RECORD_WORDS);
+        which = below(HZ_MASK_TAKEN);
         words(&record)[which] = absurd();
+        match_counters();
         break;
     case 12:
-        record.len = one_in(2) ? record.len : below(9);
-        answer.len = one_in(2) ? answer.len : below(9);
+        record.len = one_in(2) ? record.len : below(11);
+        answer.len = one_in(2) ? answer.len : below(11);
         break;
     case 13:
         stretch(&target, wrong_length(target.len));
@@ -610,6 +640,10 @@ static void spoil(void)
         break;
     case 15:
         damage(&input);
+        break;
+    case 16:
+        which = HZ_MASK_TAKEN + below(2);
+        words(&record)[which] = one_in(2) ? absurd() : words(&record)[which] + 1 - 2 * below(2);
         break;
     default:
         switch (below(3)) {
@@ -752,6 +786,7 @@ static void refused_between(void)
             words(&record)[HZ_STEP] = HZ_AT_STOPPED + below(4);
         else
             words(&record)[HZ_J] = absurd() | (uint64_t)1 << 40;
+        match_counters();
         break;
     case 6:
         if (field == 256)
@@ -776,6 +811,39 @@ static void refused_between(void)
     memcpy(nonzero.lent, kept_draws, nonzero_len);
 }
 
+/* The same where nothing is wrong but the counters, and of hz_wanted too. */
+static void refused_by_counters(void)
+{
+    uint64_t kept[2], *counters = words(&record) + HZ_MASK_TAKEN;
+    size_t which = below(2);
+    memcpy(kept, counters, sizeof kept);
+    switch (below(4)) {
+    case 0: /* as if the step were done, or done once more */
+        counters[0] += mask.len;
+        counters[1] += nonzero.len;
+        break;
+    case 1:
+        counters[which]++;
+        break;
+    case 2:
+        counters[which]--;
+        break;
+    default:
+        counters[which] ^= (uint64_t)1 << below(64);
+    }
+    expect(19, 0, 0, 0);
+    call_expecting(STEP);
+    call_expecting(WANTED);
+    memcpy(counters, kept, sizeof kept);
+}
+
+/* The record that the last call left counts these draws. */
+static void demand_counters(uint64_t mask_taken, uint64_t nonzero_taken)
+{
+    demand(words(&record)[HZ_MASK_TAKEN] == mask_taken && words(&record)[HZ_NONZERO_TAKEN] == nonzero_taken,
+           "other counters than the draws lent so far");
+}
+
 /* A run of steps from a fresh record, then the whole solve of the same table
  * with the same tapes: table, counts and answer must be the same. */
 static void case_trace(uint64_t system, uint64_t refusals_one_in)
@@ -791,6 +859,7 @@ static void case_trace(uint64_t system, uint64_t refusals_one_in)
     fill(solution.lent, size);
     fresh_words();
     demand(call(START) == HZ_FRESH, "no fresh record");
+    demand_counters(0, 0);
 
     uint64_t steps = 0, mask_taken = 0, nonzero_taken = 0, code;
     do {
@@ -801,11 +870,14 @@ static void case_trace(uint64_t system, uint64_t refusals_one_in)
         memcpy(nonzero.lent, whole_nonzero + nonzero_taken, nonzero.len);
         if (one_in(refusals_one_in))
             refused_between();
+        if (one_in(refusals_one_in))
+            refused_by_counters();
         code = call(STEP);
         demand(code != HZ_REFUSED, "refused in a run from a fresh record");
         steps++;
         mask_taken += mask.len;
         nonzero_taken += nonzero.len;
+        demand_counters(mask_taken, nonzero_taken);
     } while (code == HZ_MOVED || code == HZ_OPENED);
     uint64_t column = words(&answer)[0];
     uint8_t stepped_solution[96];
@@ -813,6 +885,7 @@ static void case_trace(uint64_t system, uint64_t refusals_one_in)
     memcpy(stepped_solution, solution.lent, size);
     demand(call(STEP) == HZ_REFUSED && words(&answer)[0] == 11, "an ended run is not refused");
     demand(call(WANTED) == HZ_REFUSED && words(&answer)[0] == 11, "an ended run is not refused");
+    refused_by_counters();
 
     memcpy(table.lent, first_table, table.len);
     mask.len = full_mask();
@@ -1172,7 +1245,7 @@ static void nothing_there(void)
         *given[number - 1] = kept;
         words(&record)[number - 1] = kept;
     }
-    size_t wrong[] = {0, 3, 5, 7, (size_t)1 << 32, ((size_t)1 << 61) + 4, ((size_t)1 << 61) + 6, SIZE_MAX};
+    size_t wrong[] = {0, 3, 5, 6, 7, 9, (size_t)1 << 32, ((size_t)1 << 61) + 4, ((size_t)1 << 61) + 8, SIZE_MAX};
     for (size_t i = 0; i < sizeof wrong / sizeof wrong[0]; i++)
         for (int kind = 0; kind < KINDS; kind++) {
             claim(&answer, wrong[i], 0);
@@ -1548,16 +1621,6 @@ static uint64_t refused_number(bool accepted(uint64_t))
     while (accepted(number))
         number = absurd();
     return number;
-}
-
-static bool is_field(uint64_t number)
-{
-    return number == 16 || number == 256;
-}
-
-static bool is_size(uint64_t number)
-{
-    return number >= 1 && number <= 96;
 }
 
 static void make_wrong(buffer *b)
@@ -2043,11 +2106,6 @@ enum { BAD_TABLE = BAD_VALUES, BAD_TARGET = BAD_SOLUTION, BAD_SHARES = FAULT_SET
 #define WRITE_SIZES (sizeof sizes_of_faults / sizeof sizes_of_faults[0])
 #define ALL_WRITE_FAULTS (WRITE_FAULT_SETS * 2 * 3 * WRITE_SIZES * WRITE_ROUNDS)
 
-static bool is_number_of_shares(uint64_t number)
-{
-    return number >= 2 && number <= 4;
-}
-
 static void case_of_write_faults(uint64_t i)
 {
     uint64_t faults = i % WRITE_FAULT_SETS;
@@ -2083,6 +2141,514 @@ static void case_of_write_faults(uint64_t i)
         expect(1, field, 0, 0);
     }
     call_expecting(WRITE);
+}
+
+/* ---- How far along (R-5) ----
+ *
+ * A record counts the draws of the steps before its place. Here these sums are known from
+ * going along 01's list, or from R-5's examples. Each place is given the right counters
+ * and wrong ones of many kinds, alone and with every other fault of the call. */
+
+typedef struct {
+    uint64_t step, j, k;
+    uint64_t mask, nonzero; /* drawn by the steps before it */
+} place;
+
+/* The places in their order: the steps, behind each Check its stop, and at last done. */
+static place list[96 * (96 + 2) + 96 + 1];
+static size_t list_len;
+static uint64_t mask_drawn, nonzero_drawn; /* by the steps of the list so far */
+
+static void add_place(uint64_t step, uint64_t j, uint64_t k)
+{
+    list[list_len++] = (place){step, j, k, mask_drawn, nonzero_drawn};
+    if (step > HZ_OPEN)
+        return;
+    mask_drawn += model_mask_draws(field, shares, size, step, j);
+    nonzero_drawn += model_nonzero_draws(shares, step);
+}
+
+static void make_list(void)
+{
+    list_len = mask_drawn = nonzero_drawn = 0;
+    for (uint64_t j = 1; j <= size; j++) {
+        for (uint64_t k = j + 1; k <= size; k++)
+            add_place(HZ_MIX, j, k);
+        add_place(HZ_CHECK, j, 0);
+        add_place(HZ_AT_STOPPED, j, 0);
+        add_place(HZ_SCALE, j, 0);
+        for (uint64_t k = j + 1; k <= size; k++)
+            add_place(HZ_CLEAR, j, k);
+    }
+    for (uint64_t j = size; j >= 1; j--)
+        add_place(HZ_OPEN, j, 0);
+    add_place(HZ_AT_DONE, 0, 0);
+}
+
+/* Kinds of counters. The first ones are the right counters with these added, of mask and
+ * nonzero, */
+#define LESS UINT64_MAX /* one less; of 0 it makes 2^64-1 */
+#define AT_32 ((uint64_t)1 << 32)
+#define AT_63 ((uint64_t)1 << 63)
+static const uint64_t added[][2] = {
+    {0, 0},     {1, 0},     {LESS, 0},      {0, 1},     {0, LESS},  {1, 1},         {LESS, LESS}, {1, LESS}, {LESS, 1},
+    {AT_32, 0}, {0, AT_32}, {AT_32, AT_32}, {AT_63, 0}, {0, AT_63}, {AT_63, AT_63}, {256, 0},     {0, 256},
+};
+/* and these come after them. */
+enum {
+    EXCHANGED = sizeof added / sizeof added[0],
+    OF_BEFORE, /* of the last place before it that has others */
+    OF_AFTER,  /* and the first after it */
+    LESS_A_CHECK, /* of a stop: those of its Check */
+    OF_DONE,
+    OF_START,
+    OF_OTHER_FIELD, /* of this place in another list */
+    OF_OTHER_SHARES,
+    OF_OTHER_SIZE,
+    MASK_HUGE,
+    NONZERO_HUGE,
+    BOTH_HUGE,
+    ANY_MASK,
+    ANY_NONZERO,
+    ANY_BOTH,
+    COUNTER_KINDS,
+};
+
+static void set_counters(uint64_t mask_taken, uint64_t nonzero_taken)
+{
+    words(&record)[HZ_MASK_TAKEN] = mask_taken;
+    words(&record)[HZ_NONZERO_TAKEN] = nonzero_taken;
+}
+
+/* The counters of a place, as they are where the numbers are these. */
+static void set_counters_of(uint64_t other_field, uint64_t other_shares, uint64_t other_size, const place *p)
+{
+    uint64_t mask_taken, nonzero_taken;
+    model_taken(other_field, other_shares, other_size, p->step, p->j, p->k, &mask_taken, &nonzero_taken);
+    set_counters(mask_taken, nonzero_taken);
+}
+
+static void make_counters(size_t at, int kind)
+{
+    const place *p = &list[at], *before = p, *after = p;
+    while (before > list && before->mask == p->mask)
+        before--;
+    while (after < list + list_len - 1 && after->mask == p->mask)
+        after++;
+    uint64_t one = absurd(), other = absurd();
+    switch (kind) {
+    case EXCHANGED:
+        set_counters(p->nonzero, p->mask);
+        break;
+    case OF_BEFORE:
+        set_counters(before->mask, before->nonzero);
+        break;
+    case OF_AFTER:
+        set_counters(after->mask, after->nonzero);
+        break;
+    case LESS_A_CHECK:
+        set_counters(p->mask - model_mask_draws(field, shares, size, HZ_CHECK, 1), p->nonzero);
+        break;
+    case OF_DONE:
+        set_counters(mask_drawn, nonzero_drawn);
+        break;
+    case OF_START:
+        set_counters(0, 0);
+        break;
+    case OF_OTHER_FIELD:
+        set_counters_of(field == 16 ? 256 : 16, shares, size, p);
+        break;
+    case OF_OTHER_SHARES:
+        set_counters_of(field, shares == 4 ? 2 : shares + 1, size, p);
+        break;
+    case OF_OTHER_SIZE:
+        set_counters_of(field, shares, size == 96 ? 95 : size + 1, p);
+        break;
+    case MASK_HUGE:
+        set_counters(UINT64_MAX, p->nonzero);
+        break;
+    case NONZERO_HUGE:
+        set_counters(p->mask, UINT64_MAX);
+        break;
+    case BOTH_HUGE:
+        set_counters(UINT64_MAX, UINT64_MAX);
+        break;
+    case ANY_MASK:
+        set_counters(one_in(2) ? one : below(mask_drawn + 1), p->nonzero);
+        break;
+    case ANY_NONZERO:
+        set_counters(p->mask, one_in(2) ? one : below(nonzero_drawn + 1));
+        break;
+    case ANY_BOTH:
+        set_counters(one, other);
+        break;
+    default:
+        set_counters(p->mask + added[kind][0], p->nonzero + added[kind][1]);
+    }
+}
+
+/* Sets the record to a place of the list; true where counters of this kind are right. */
+static bool stand_at(size_t at, int kind)
+{
+    const place *p = &list[at];
+    set_record(p->step, p->j, p->k);
+    make_counters(at, kind);
+    return words(&record)[HZ_MASK_TAKEN] == p->mask && words(&record)[HZ_NONZERO_TAKEN] == p->nonzero;
+}
+
+/* The record's place becomes one that the list has not. */
+static void leave_list(void)
+{
+    uint64_t *r = words(&record), step = r[HZ_STEP];
+    bool pair = step == HZ_MIX || step == HZ_CLEAR;
+    switch (below(5)) {
+    case 0:
+        r[HZ_STEP] += one_in(2) ? HZ_AT_DONE + 1 : (uint64_t)1 << (8 + below(56));
+        break;
+    case 1:
+        r[HZ_J] = step == HZ_AT_DONE ? 1 + below(size) : 0;
+        break;
+    case 2:
+        r[HZ_K] = pair ? r[HZ_J] : 1 + below(size);
+        break;
+    case 3:
+        r[pair || step == HZ_AT_DONE ? HZ_K : HZ_J] = size + 1;
+        break;
+    default:
+        r[HZ_J + below(2)] += AT_32;
+    }
+}
+
+/* A set of faults of a call has a bit for each, by the number that tells it. They are made
+ * from the last of the call's order to the first, so that the first has the last word. */
+#define FAULT(number) (1u << (number))
+#define NUMBER_FAULTS (FAULT(1) | FAULT(2) | FAULT(3))
+#define LATER_THAN_11 (FAULT(6) | FAULT(7) | FAULT(14) | FAULT(8) | FAULT(15) | FAULT(9) | FAULT(12))
+#define STEP_FAULTS (NUMBER_FAULTS | FAULT(4) | FAULT(5) | FAULT(10) | LATER_THAN_11)
+#define LAST_FAULT 15
+
+/* 6, 7, 14, 8, 15, 9 and 12, of table and tapes that are right. */
+static void make_later_faults(const place *p, uint32_t faults)
+{
+    size_t masks = mask.len, nonzeros = nonzero.len;
+    if (p->j != 0)
+        pivot(p->j)[0] ^= pivot_value(p->j) ^ (faults & FAULT(12) ? 0 : nonzero_element());
+    if (faults & FAULT(12) && p->step == HZ_SCALE)
+        expect(12, p->j, p->j, 0);
+    if (faults & FAULT(9) && nonzeros > 0) {
+        size_t at = below(nonzeros);
+        nonzero.lent[at] = zero_draw();
+        expect(9, at, 0, 0);
+    }
+    if (faults & FAULT(15)) {
+        stretch(&nonzero, nonzeros + 1 + below(3));
+        expect(15, nonzeros, 0, 0);
+    }
+    if (faults & FAULT(8) && nonzeros > 0) {
+        nonzero.len = below(nonzeros);
+        expect(8, nonzeros, 0, 0);
+    }
+    if (faults & FAULT(14)) {
+        stretch(&mask, masks + 1 + below(3));
+        expect(14, masks, 0, 0);
+    }
+    if (faults & FAULT(7)) {
+        mask.len = below(masks);
+        expect(7, masks, 0, 0);
+    }
+    if (faults & FAULT(6) && field == 16)
+        make_large_entry();
+}
+
+/* 10, 19 and 11, of a record at this place whose counters are right or not. */
+static void make_place_faults(const place *p, bool right, uint32_t faults)
+{
+    if (p->step > HZ_OPEN)
+        expect(11, 0, 0, 0);
+    if (!right)
+        expect(19, 0, 0, 0);
+    if (faults & FAULT(10)) {
+        leave_list();
+        expect(10, 0, 0, 0);
+    }
+}
+
+/* 1, 2 and 3, of the record's numbers. */
+static void make_number_faults(uint32_t faults)
+{
+    static bool (*const accepted[])(uint64_t) = {is_field, is_number_of_shares, is_size};
+    for (uint64_t number = 3; number >= 1; number--)
+        if (faults & FAULT(number)) {
+            uint64_t given = refused_number(accepted[number - 1]);
+            words(&record)[number - 1] = given;
+            expect(number, given, 0, 0);
+        }
+}
+
+static uint64_t counters_refused;
+static bool counters_met[KINDS][HZ_AT_DONE + 1]; /* refused by 19, by call and kind of place */
+
+static uint64_t call_at(int kind, const place *p)
+{
+    uint64_t code = call_expecting(kind);
+    if (refusal[0] == 19) {
+        counters_refused++;
+        counters_met[kind][p->step] = true;
+    }
+    return code;
+}
+
+/* hz_wanted at a place, with counters of this kind and with those of these faults that it
+ * can have. It tells how much the counters grow up to the next place. */
+static void wanted_at(size_t at, int kind, uint32_t faults)
+{
+    const place *p = &list[at];
+    bool right = stand_at(at, kind);
+    expect(0, 0, 0, 0);
+    make_place_faults(p, right, faults);
+    make_number_faults(faults);
+    call_at(WANTED, p);
+    if (refusal[0] == 0)
+        demand(words(&answer)[0] == p[1].mask - p->mask && words(&answer)[1] == p[1].nonzero - p->nonzero,
+               "other draws than between two places of the list");
+}
+
+/* hz_step likewise. Where it is accepted, the record it leaves is the next of the list. */
+static void step_at(size_t at, int kind, uint32_t faults)
+{
+    const place *p = &list[at];
+    bool right = stand_at(at, kind);
+    memcpy(table.lent, first_table, table.len);
+    make_tapes(STEP);
+    expect(0, 0, 0, 0);
+    make_later_faults(p, faults);
+    make_place_faults(p, right, faults);
+    if (faults & FAULT(5)) {
+        expect(5, solution.len, 0, 0);
+        make_wrong(&solution);
+    }
+    if (faults & FAULT(4)) {
+        expect(4, table.len, 0, 0);
+        make_wrong(&table);
+    }
+    make_number_faults(faults);
+    uint64_t code = call_at(STEP, p);
+    solution.len = size;
+    table.len = values.len * shares;
+    if (refusal[0] != 0)
+        return;
+    bool stops = p->step == HZ_CHECK && faults & FAULT(12);
+    const place *next = p->step == HZ_CHECK && !stops ? p + 2 : p + 1;
+    uint64_t left[] = {field, shares, size, next->step, next->j, next->k, next->mask, next->nonzero};
+    demand((code == HZ_STOPPED) == stops, "stopped at a pivot that is not 0, or moved on from one that is");
+    demand(memcmp(record.lent, left, sizeof left) == 0, "another record than the next of the list");
+}
+
+/* Both calls with counters of every kind and every fault, or one, and with many faults. */
+static void counters_at(size_t at, bool every_fault)
+{
+    make_values(RANDOM);
+    make_table();
+    memcpy(first_table, table.lent, table.len);
+    for (int kind = 0; kind < COUNTER_KINDS; kind++) {
+        wanted_at(at, kind, 0);
+        step_at(at, kind, 0);
+        step_at(at, kind, (uint32_t)any() & STEP_FAULTS);
+        if (!every_fault) {
+            wanted_at(at, kind, FAULT(1 + below(LAST_FAULT)));
+            step_at(at, kind, FAULT(1 + below(LAST_FAULT)));
+            continue;
+        }
+        for (uint64_t number = 1; number <= LAST_FAULT; number++) {
+            if (FAULT(number) & STEP_FAULTS)
+                step_at(at, kind, FAULT(number));
+            if (FAULT(number) & (NUMBER_FAULTS | FAULT(10)))
+                wanted_at(at, kind, FAULT(number));
+        }
+        wanted_at(at, kind, STEP_FAULTS);
+        step_at(at, kind, STEP_FAULTS);
+        step_at(at, kind, LATER_THAN_11);
+    }
+}
+
+/* A record of any other number of words, though the first ones are right. */
+static void other_words(void)
+{
+    for (size_t len = 0; len <= record.capacity; len++)
+        for (int kind = START; kind <= STEP; kind++) {
+            if (len == HZ_RECORD_WORDS)
+                continue;
+            stand_at(0, 0);
+            make_tapes(STEP);
+            record.len = len;
+            demand(call(kind) == HZ_BAD_WORDS, "a record of other words is taken");
+            record.len = HZ_RECORD_WORDS;
+        }
+}
+
+/* Numbers for the i-th case of a size: each field with each number of shares. */
+static void start_counters(uint64_t i)
+{
+    field = i % 2 == 0 ? 16 : 256;
+    shares = 2 + i / 2 % 3;
+    make_list();
+    solution.len = size;
+    fill(solution.lent, size);
+    fresh_words();
+}
+
+/* Every place of small systems. */
+#define EVERY_FAULT_SIZES 3
+static void case_of_counters(uint64_t i)
+{
+    size = 1 + i / 6;
+    start_counters(i);
+    for (size_t at = 0; at < list_len; at++)
+        counters_at(at, size <= EVERY_FAULT_SIZES);
+    other_words();
+    call(START);
+    demand_counters(0, 0);
+    call(COUNTS);
+    demand(words(&answer)[1] == mask_drawn && words(&answer)[2] == nonzero_drawn, "other counts than the list's");
+}
+
+/* Some place of this kind. */
+static size_t any_of(uint64_t step)
+{
+    size_t at = below(list_len);
+    while (list[at].step != step)
+        at = (at + 1) % list_len;
+    return at;
+}
+
+/* Of larger systems some places of each kind, the first and the last step, and all stops. */
+#define COUNTER_ROUNDS 3
+static const uint64_t sizes_of_counters[] = {8, 17, 40, 96};
+#define ALL_LARGE_COUNTERS (2 * 3 * (sizeof sizes_of_counters / sizeof sizes_of_counters[0]))
+static void case_of_large_counters(uint64_t i)
+{
+    size = sizes_of_counters[i / 6];
+    start_counters(i);
+    for (uint64_t step = HZ_MIX; step <= HZ_AT_DONE; step++)
+        for (int round = 0; round < COUNTER_ROUNDS; round++)
+            counters_at(any_of(step), false);
+    counters_at(0, false);
+    counters_at(list_len - 2, false);
+    for (size_t at = 0; at < list_len; at++)
+        for (int kind = 0; list[at].step == HZ_AT_STOPPED && kind < COUNTER_KINDS; kind++)
+            wanted_at(at, kind, 0);
+}
+
+/* Examples of R-5, and 01's counts. The places of a list follow each other. */
+static const struct {
+    uint64_t record[HZ_RECORD_WORDS];
+    uint64_t number; /* by which both calls refuse it, or 0 */
+} counter_vectors[] = {
+    {{16, 2, 2, HZ_MIX, 1, 2, 0, 0}, 0},
+    {{16, 2, 2, HZ_CHECK, 1, 0, 7, 0}, 0},
+    {{16, 2, 2, HZ_SCALE, 1, 0, 12, 0}, 0},
+    {{16, 2, 2, HZ_CLEAR, 1, 2, 20, 1}, 0},
+    {{16, 2, 2, HZ_CHECK, 2, 0, 23, 1}, 0},
+    {{16, 2, 2, HZ_SCALE, 2, 0, 28, 1}, 0},
+    {{16, 2, 2, HZ_OPEN, 2, 0, 34, 2}, 0},
+    {{16, 2, 2, HZ_OPEN, 1, 0, 35, 2}, 0},
+    {{16, 2, 2, HZ_AT_DONE, 0, 0, 36, 2}, 11},
+    {{16, 2, 2, HZ_AT_STOPPED, 1, 0, 12, 0}, 11},
+    {{16, 2, 2, HZ_AT_STOPPED, 2, 0, 28, 1}, 11},
+    {{256, 3, 2, HZ_MIX, 1, 2, 0, 0}, 0},
+    {{256, 3, 2, HZ_CHECK, 1, 0, 24, 0}, 0},
+    {{256, 3, 2, HZ_SCALE, 1, 0, 42, 0}, 0},
+    {{256, 3, 2, HZ_CLEAR, 1, 2, 67, 2}, 0},
+    {{256, 3, 2, HZ_CHECK, 2, 0, 76, 2}, 0},
+    {{256, 3, 2, HZ_SCALE, 2, 0, 94, 2}, 0},
+    {{256, 3, 2, HZ_OPEN, 2, 0, 113, 4}, 0},
+    {{256, 3, 2, HZ_OPEN, 1, 0, 116, 4}, 0},
+    {{256, 3, 2, HZ_AT_DONE, 0, 0, 119, 4}, 11},
+    {{256, 3, 2, HZ_AT_STOPPED, 1, 0, 42, 0}, 11},
+    {{256, 3, 2, HZ_AT_STOPPED, 2, 0, 94, 2}, 11},
+    {{16, 2, 1, HZ_CHECK, 1, 0, 0, 0}, 0},
+    {{16, 2, 1, HZ_SCALE, 1, 0, 5, 0}, 0},
+    {{16, 2, 1, HZ_OPEN, 1, 0, 11, 1}, 0},
+    {{16, 2, 1, HZ_AT_DONE, 0, 0, 12, 1}, 11},
+    {{16, 2, 1, HZ_AT_STOPPED, 1, 0, 5, 0}, 11},
+    {{16, 3, 1, HZ_AT_DONE, 0, 0, 35, 2}, 11},
+    {{256, 2, 1, HZ_AT_DONE, 0, 0, 14, 1}, 11},
+    {{256, 4, 96, HZ_AT_DONE, 0, 0, 3778608, 288}, 11},
+    {{16, 2, 2, HZ_CHECK, 1, 0, 7, 1}, 19},
+    {{16, 2, 2, HZ_CHECK, 1, 0, 12, 0}, 19},
+    {{16, 2, 2, HZ_MIX, 1, 2, UINT64_MAX, UINT64_MAX}, 19},
+    {{16, 2, 2, HZ_AT_STOPPED, 1, 0, 7, 0}, 19},
+    {{16, 2, 2, HZ_AT_STOPPED, 2, 0, 23, 1}, 19},
+    {{16, 2, 2, HZ_AT_STOPPED, 2, 0, 12, 0}, 19},
+    {{16, 2, 2, HZ_AT_DONE, 0, 0, 35, 2}, 19},
+    {{16, 2, 2, HZ_AT_DONE, 0, 0, 0, 0}, 19},
+    {{16, 2, 2, HZ_AT_DONE, 0, 0, UINT64_MAX, UINT64_MAX}, 19},
+    {{256, 4, 96, HZ_AT_DONE, 0, 0, 3778607, 288}, 19},
+    {{256, 4, 96, HZ_AT_DONE, 0, 0, 3778608, 287}, 19},
+    {{16, 2, 2, HZ_MIX, 2, 2, 0, 0}, 10},
+    {{16, 2, 2, HZ_MIX, 2, 2, 20, 1}, 10},
+    {{16, 2, 2, HZ_MIX, 2, 2, 23, 1}, 10},
+    {{16, 2, 2, HZ_MIX, 2, 2, UINT64_MAX, UINT64_MAX}, 10},
+    {{16, 2, 2, HZ_AT_STOPPED, 3, 0, 36, 2}, 10},
+};
+#define ALL_COUNTER_VECTORS (sizeof counter_vectors / sizeof counter_vectors[0])
+
+static void set_vector(size_t i)
+{
+    memcpy(record.lent, counter_vectors[i].record, sizeof counter_vectors[i].record);
+}
+
+/* hz_step from the i-th vector, which is a step; it leads to the one of number `next`. */
+static void step_of_vector(size_t i, size_t next, uint8_t pivot_wanted)
+{
+    uint64_t j = counter_vectors[i].record[HZ_J];
+    make_values(RANDOM);
+    make_table();
+    pivot(j)[0] ^= pivot_value(j) ^ pivot_wanted;
+    set_vector(i);
+    make_tapes(STEP);
+    call_expecting(STEP);
+    demand(memcmp(record.lent, counter_vectors[next].record, sizeof counter_vectors[next].record) == 0,
+           "another record than R-5's");
+}
+
+/* The vector of the stop that Check, the i-th one, can lead to. */
+static size_t stop_of(size_t i)
+{
+    size_t stop = i;
+    while (counter_vectors[stop].record[HZ_STEP] != HZ_AT_STOPPED
+           || counter_vectors[stop].record[HZ_J] != counter_vectors[i].record[HZ_J])
+        stop++;
+    return stop;
+}
+
+static void case_of_counter_vectors(uint64_t i)
+{
+    const uint64_t *told = counter_vectors[i].record;
+    uint64_t number = counter_vectors[i].number;
+    field = told[HZ_FIELD];
+    shares = told[HZ_SHARES];
+    size = told[HZ_SIZE];
+    solution.len = size;
+    fill(solution.lent, size);
+    fresh_words();
+    if (number == 0 && told[HZ_MASK_TAKEN] == 0) {
+        demand(call(START) == HZ_FRESH, "no fresh record");
+        demand(memcmp(record.lent, told, bytes_of(&record)) == 0, "another fresh record than R-5's");
+    }
+    set_vector(i);
+    expect(number, 0, 0, 0);
+    call_expecting(WANTED);
+    if (number == 0) {
+        step_of_vector(i, i + 1, nonzero_element());
+        if (told[HZ_STEP] == HZ_CHECK)
+            step_of_vector(i, stop_of(i), 0);
+        return;
+    }
+    make_values(RANDOM);
+    make_table();
+    make_tapes(STEP);
+    call_expecting(STEP);
 }
 
 /* ---- Three ways to one answer ----
@@ -2215,12 +2781,16 @@ static void look_back(void)
     for (uint64_t s = 0; s < 8; s++)
         for (uint64_t c = 0; c <= s; c++)
             all_met &= stop_met[s][c];
+    for (uint64_t step = HZ_MIX; step <= HZ_AT_DONE; step++)
+        all_met &= counters_met[WANTED][step] && counters_met[STEP][step];
     printf("three ways agree on %" PRIu64 " systems, of which %" PRIu64 " are singular\n", systems, singular_systems);
     printf("%" PRIu64 " exchange records were made up, of which %" PRIu64 " are damaged\n", made_up_records,
            damaged_records);
+    printf("%" PRIu64 " records of a right place had wrong counters\n", counters_refused);
     if (systems >= 20000 && 2 * singular_systems == systems && all_met && made_up_records >= 50000)
         return;
-    printf("these are too few, or not half, or a column of some size was never the first\n");
+    printf("these are too few, or not half, or a column of some size was never the first, or a kind of place never had "
+           "wrong counters\n");
     printf("%" PRIu64 " passed, 1 failed\n", calls);
     exit(1);
 }
@@ -2281,11 +2851,13 @@ static const struct {
     void (*run)(uint64_t i); /* i from 0 to count - 1 */
 } cases[] = {
     {ALL_SMALL, case_of_places},
+    {ALL_COUNTER_VECTORS, case_of_counter_vectors},
     {ALL_LENGTHS, case_of_lengths},
     {ALL_CELL_VECTORS, case_of_cell_vectors},
     {ALL_CELLS, case_of_cells},
     {ALL_TAPE_VECTORS, case_of_tape_vectors},
     {ALL_TAPES, case_of_tapes},
+    {ALL_SMALL, case_of_counters},
     {ALL_SIZES, case_of_sizes},
     {ALL_REFUSED_SHARES, case_of_refused_shares},
     {ALL_VECTORS, case_of_vectors},
@@ -2297,6 +2869,7 @@ static const struct {
     {ALL_WRITE_FAULTS, case_of_write_faults},
     {ALL_WAYS, case_of_ways},
     {RANDOM_CASES, case_random},
+    {ALL_LARGE_COUNTERS, case_of_large_counters},
     {ALL_LARGE_WAYS, case_of_large_ways},
     {ALL_LARGE, case_large},
 };

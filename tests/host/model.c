@@ -2,7 +2,6 @@
 
 #include "hostozaro.h"
 
-#include <stdbool.h>
 #include <string.h>
 
 /* ---- The two fields ---- */
@@ -334,6 +333,61 @@ uint64_t model_full_mask_draws(uint64_t field, uint64_t n, uint64_t m)
     return sum;
 }
 
+/* ---- How far along (R-5) ---- */
+
+/* A way along the step list up to a place, and the draws of the steps passed. */
+typedef struct {
+    uint64_t field, n, m;
+    uint64_t step, j, k; /* the place */
+    uint64_t mask, nonzero;
+} way;
+
+/* Whether this is the place that the way leads to. */
+static bool is_end(const way *w, uint64_t step, uint64_t j, uint64_t k)
+{
+    return w->step == step && w->j == j && w->k == k;
+}
+
+/* Comes to this step of the list: ends there, with true, or passes it. */
+static bool ends_at(way *w, uint64_t step, uint64_t j, uint64_t k)
+{
+    if (is_end(w, step, j, k))
+        return true;
+    w->mask += model_mask_draws(w->field, w->n, w->m, step, j);
+    w->nonzero += model_nonzero_draws(w->n, step);
+    return false;
+}
+
+/* Goes along the list as 01 has it; false where the place is not met. A stop at column
+ * j stands right behind Check(j), and done behind the last step. */
+static bool go_along(way *w)
+{
+    for (uint64_t j = 1; j <= w->m; j++) {
+        for (uint64_t k = j + 1; k <= w->m; k++)
+            if (ends_at(w, HZ_MIX, j, k))
+                return true;
+        if (ends_at(w, HZ_CHECK, j, 0) || is_end(w, HZ_AT_STOPPED, j, 0) || ends_at(w, HZ_SCALE, j, 0))
+            return true;
+        for (uint64_t k = j + 1; k <= w->m; k++)
+            if (ends_at(w, HZ_CLEAR, j, k))
+                return true;
+    }
+    for (uint64_t j = w->m; j >= 1; j--)
+        if (ends_at(w, HZ_OPEN, j, 0))
+            return true;
+    return is_end(w, HZ_AT_DONE, 0, 0);
+}
+
+bool model_taken(uint64_t field, uint64_t n, uint64_t m, uint64_t step, uint64_t j, uint64_t k, uint64_t *mask,
+                 uint64_t *nonzero)
+{
+    way w = {field, n, m, step, j, k, 0, 0};
+    bool met = go_along(&w);
+    *mask = w.mask;
+    *nonzero = w.nonzero;
+    return met;
+}
+
 /* ---- Answers and refusals ---- */
 
 static uint64_t say(uint64_t code, uint64_t *answer, uint64_t a, uint64_t b, uint64_t c, uint64_t d)
@@ -419,23 +473,16 @@ static size_t first_zero_draw(uint64_t field, const uint8_t *bytes, size_t len)
 
 /* ---- The place of a record ---- */
 
-/* Whether the place stands in the step list, or is a stop or the end. */
-static bool place_exists(uint64_t m, uint64_t step, uint64_t j, uint64_t k)
+/* 10, 19, 11, or 0 for none: of a record whose numbers are right. */
+static uint64_t bad_record(const uint64_t *record)
 {
-    switch (step) {
-    case HZ_MIX:
-    case HZ_CLEAR:
-        return 1 <= j && j < k && k <= m;
-    case HZ_CHECK:
-    case HZ_SCALE:
-    case HZ_OPEN:
-    case HZ_AT_STOPPED:
-        return 1 <= j && j <= m && k == 0;
-    case HZ_AT_DONE:
-        return j == 0 && k == 0;
-    default:
-        return false;
-    }
+    uint64_t step = record[HZ_STEP], mask, nonzero;
+    if (!model_taken(record[HZ_FIELD], record[HZ_SHARES], record[HZ_SIZE], step, record[HZ_J], record[HZ_K], &mask,
+                     &nonzero))
+        return 10;
+    if (record[HZ_MASK_TAKEN] != mask || record[HZ_NONZERO_TAKEN] != nonzero)
+        return 19;
+    return step == HZ_AT_STOPPED || step == HZ_AT_DONE ? 11 : 0;
 }
 
 static void set_place(uint64_t *record, uint64_t step, uint64_t j, uint64_t k)
@@ -603,6 +650,8 @@ uint64_t model_start(uint64_t field, uint64_t n, uint64_t m,
     record[HZ_FIELD] = field;
     record[HZ_SHARES] = n;
     record[HZ_SIZE] = m;
+    record[HZ_MASK_TAKEN] = 0;
+    record[HZ_NONZERO_TAKEN] = 0;
     enter_column(record, 1);
     return say(HZ_FRESH, answer, 0, 0, 0, 0);
 }
@@ -613,14 +662,13 @@ uint64_t model_wanted(const uint64_t *record, size_t record_len,
     if (record_len != HZ_RECORD_WORDS || answer_len != HZ_ANSWER_WORDS)
         return HZ_BAD_WORDS;
     uint64_t field = record[HZ_FIELD], n = record[HZ_SHARES], m = record[HZ_SIZE];
-    uint64_t step = record[HZ_STEP], j = record[HZ_J], k = record[HZ_K];
+    uint64_t step = record[HZ_STEP], j = record[HZ_J];
     uint64_t detail, bad = bad_number(field, n, m, &detail);
     if (bad)
         return refuse(answer, bad, detail);
-    if (!place_exists(m, step, j, k))
-        return refuse(answer, 10, 0);
-    if (step == HZ_AT_STOPPED || step == HZ_AT_DONE)
-        return refuse(answer, 11, 0);
+    bad = bad_record(record);
+    if (bad)
+        return refuse(answer, bad, 0);
     return say(HZ_WANTED, answer, model_mask_draws(field, n, m, step, j), model_nonzero_draws(n, step), 0, 0);
 }
 
@@ -642,10 +690,9 @@ uint64_t model_step(uint64_t *record, size_t record_len,
         return refuse(answer, 4, m * (m + 1) * n);
     if (solution_len != m)
         return refuse(answer, 5, m);
-    if (!place_exists(m, step, j, k))
-        return refuse(answer, 10, 0);
-    if (step == HZ_AT_STOPPED || step == HZ_AT_DONE)
-        return refuse(answer, 11, 0);
+    bad = bad_record(record);
+    if (bad)
+        return refuse(answer, bad, 0);
     cell large = first_large(field, m, n, table);
     if (large.row)
         return refuse_cell(answer, 6, large);
@@ -661,15 +708,13 @@ uint64_t model_step(uint64_t *record, size_t record_len,
         return refuse(answer, 9, zero);
 
     task t = {field, n, m, table, {mask, 0}, {nonzero, 0}};
+    bool stops = false;
     switch (step) {
     case HZ_MIX:
         mix(&t, j, k);
         break;
     case HZ_CHECK:
-        if (check_stops(&t, j)) {
-            set_place(record, HZ_AT_STOPPED, j, 0);
-            return say(HZ_STOPPED, answer, j, 0, 0, 0);
-        }
+        stops = check_stops(&t, j);
         break;
     case HZ_SCALE:
         if (!scale(&t, j))
@@ -680,13 +725,20 @@ uint64_t model_step(uint64_t *record, size_t record_len,
         break;
     case HZ_OPEN:
         solution[j - 1] = open_unknown(&t, j);
-        move_on(record);
-        if (j == 1)
-            return say(HZ_DONE, answer, solution[0], 0, 0, 0);
-        return say(HZ_OPENED, answer, j, solution[j - 1], 0, 0);
+        break;
+    }
+    record[HZ_MASK_TAKEN] += t.mask.taken;
+    record[HZ_NONZERO_TAKEN] += t.nonzero.taken;
+    if (stops) {
+        set_place(record, HZ_AT_STOPPED, j, 0);
+        return say(HZ_STOPPED, answer, j, 0, 0, 0);
     }
     move_on(record);
-    return say(HZ_MOVED, answer, 0, 0, 0, 0);
+    if (step != HZ_OPEN)
+        return say(HZ_MOVED, answer, 0, 0, 0, 0);
+    if (j == 1)
+        return say(HZ_DONE, answer, solution[0], 0, 0, 0);
+    return say(HZ_OPENED, answer, j, solution[j - 1], 0, 0);
 }
 
 /* Runs the list on a task without its refusals. Returns the column at which it

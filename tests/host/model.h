@@ -1,10 +1,11 @@
-/* An independent C implementation of the paper 01, and of R-1, R-2 and R-3 in 02, for
- * the calls of hostozaro.h: each model_X answers as hz_X must. Written from the papers
- * alone (model_wanted, which they have not, and the words of an answer from
- * hostozaro.h), for clarity, and used only to compare. */
+/* An independent C implementation of the paper 01, and of R-1, R-2, R-3 and R-5 in 02,
+ * for the calls of hostozaro.h: each model_X answers as hz_X must. Written from the
+ * papers alone (model_wanted, which they have not, and the words of an answer and of a
+ * record from hostozaro.h), for clarity, and used only to compare. */
 #ifndef MODEL_H
 #define MODEL_H
 
+#include <stdbool.h>
 #include <stddef.h>
 #include <stdint.h>
 
@@ -68,5 +69,10 @@ uint64_t model_nonzero_draws(uint64_t shares, uint64_t step);
 
 /* The mask draws of a full solve, by the same table. */
 uint64_t model_full_mask_draws(uint64_t field, uint64_t shares, uint64_t size);
+
+/* The draws of all steps before a place, of a stop up to and with its Check (R-5). False,
+ * with the draws of the whole list, where this size has no such place. */
+bool model_taken(uint64_t field, uint64_t shares, uint64_t size, uint64_t step, uint64_t j, uint64_t k,
+                 uint64_t *mask, uint64_t *nonzero);
 
 #endif

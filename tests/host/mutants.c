@@ -63,27 +63,56 @@
  *     18 one later            18 tells the second byte after the end
  *     1 before 16, 1 before 17, 1 before 18
  *
+ * and of R-5, where CALL is hz_wanted or hz_step:
+ *
+ *     leaves counters         hz_start leaves the counters' words as they were
+ *     leaves nonzero          and the last one alone
+ *     place alone             hz_step moves the place on and not the counters
+ *     mask moved alone        and the mask counter
+ *     stop without Check      hz_step does not count the Check that stops
+ *     done without Open       nor the last Open
+ *     refused adds            hz_step counts the draws lent where it refuses
+ *     12 adds                 and only where it finds the pivot 0
+ *     19 after 11 CALL, 19 before 10 CALL, 19 before 5, 19 after 6, 19 after 7, 19 after 12
+ *     19 and detail CALL      19 tells the mask draws that it wants
+ *     forgets 19 CALL         does not look at the counters
+ *     mask read alone CALL    looks at the mask counter and not at the other
+ *     nonzero read alone CALL likewise
+ *     sum alone CALL          looks at the sum of the two
+ *     modulo 2^32 CALL        looks at the low halves
+ *     modulo 2^63 CALL        looks at all but the highest bits
+ *     more taken CALL         takes counters that are larger
+ *     stop without Check CALL wants of a stop what was drawn before its Check
+ *
  * Linked with --wrap for every call. */
 #include "hostozaro.h"
 #include "model.h"
 
 #include <stdbool.h>
-#include <stdio.h>
 #include <stdlib.h>
 #include <string.h>
 
+/* What MUTANT names. It is asked for many times in each call, the environment once. */
+static const char *named(void)
+{
+    static const char *name;
+    if (name == NULL)
+        name = getenv("MUTANT");
+    if (name == NULL)
+        name = "";
+    return name;
+}
+
 static bool fault(const char *which)
 {
-    const char *named = getenv("MUTANT");
-    return named != NULL && strcmp(named, which) == 0;
+    return strcmp(named(), which) == 0;
 }
 
 /* A fault that is named for one call, or one buffer of it. */
 static bool fault_at(const char *which, const char *at)
 {
-    char name[64];
-    snprintf(name, sizeof name, "%s %s", which, at);
-    return fault(name);
+    size_t len = strlen(which);
+    return strncmp(named(), which, len) == 0 && named()[len] == ' ' && strcmp(named() + len + 1, at) == 0;
 }
 
 static void look(const char *at, const void *buffer, size_t bytes)
@@ -142,13 +171,60 @@ static size_t first_large(const uint8_t *bytes, size_t len)
     return at;
 }
 
+/* The counters of a record whose place is in the list, as they must be. */
+static void right_counters(const uint64_t *record, uint64_t right[2])
+{
+    model_taken(record[HZ_FIELD], record[HZ_SHARES], record[HZ_SIZE], record[HZ_STEP], record[HZ_J], record[HZ_K],
+                &right[0], &right[1]);
+}
+
+/* Whether a call takes these counters of a record, which are refused by 19, for right. */
+static bool overlooked(const char *call, const uint64_t *record)
+{
+    uint64_t mask = record[HZ_MASK_TAKEN], nonzero = record[HZ_NONZERO_TAKEN], right[2], low = UINT64_MAX >> 1;
+    right_counters(record, right);
+    return fault_at("forgets 19", call) || (fault_at("19 after 11", call) && record[HZ_STEP] > HZ_OPEN)
+           || (fault_at("mask read alone", call) && mask == right[0])
+           || (fault_at("nonzero read alone", call) && nonzero == right[1])
+           || (fault_at("sum alone", call) && mask + nonzero == right[0] + right[1])
+           || (fault_at("modulo 2^32", call) && (uint32_t)mask == right[0] && (uint32_t)nonzero == right[1])
+           || (fault_at("modulo 2^63", call) && (mask & low) == right[0] && (nonzero & low) == right[1])
+           || (fault_at("more taken", call) && mask >= right[0] && nonzero >= right[1]);
+}
+
+/* A refusal by 10, 19 or 11 is told wrong, in what hz_wanted and hz_step have in common. */
+static void spoil_place(const char *call, const uint64_t *record, uint64_t *answer)
+{
+    uint64_t number = answer[0], right[2];
+    if (fault_at("19 before 10", call) && number == 10)
+        answer[0] = 19;
+    if (number != 19 && number != 11)
+        return;
+    right_counters(record, right);
+    if (fault_at("19 and detail", call) && number == 19)
+        answer[1] = right[0];
+    if (fault_at("stop without Check", call) && record[HZ_STEP] == HZ_AT_STOPPED) {
+        uint64_t check = model_mask_draws(record[HZ_FIELD], record[HZ_SHARES], record[HZ_SIZE], HZ_CHECK, record[HZ_J]);
+        bool same = record[HZ_MASK_TAKEN] == right[0] - check && record[HZ_NONZERO_TAKEN] == right[1];
+        answer[0] = same ? 11 : 19;
+    }
+}
+
 uint64_t __real_hz_start(uint64_t, uint64_t, uint64_t, uint64_t *, size_t, uint64_t *, size_t);
 uint64_t __wrap_hz_start(uint64_t field, uint64_t shares, uint64_t size, uint64_t *record, size_t record_len,
                          uint64_t *answer, size_t answer_len)
 {
     WORDS(hz_start, record);
     WORDS(hz_start, answer);
-    return __real_hz_start(field, shares, size, record, record_len, answer, answer_len);
+    uint64_t kept[HZ_RECORD_WORDS] = {0};
+    if (record_len == HZ_RECORD_WORDS)
+        memcpy(kept, record, sizeof kept);
+    uint64_t code = __real_hz_start(field, shares, size, record, record_len, answer, answer_len);
+    if (fault("leaves counters") && code == HZ_FRESH)
+        record[HZ_MASK_TAKEN] = kept[HZ_MASK_TAKEN];
+    if ((fault("leaves counters") || fault("leaves nonzero")) && code == HZ_FRESH)
+        record[HZ_NONZERO_TAKEN] = kept[HZ_NONZERO_TAKEN];
+    return code;
 }
 
 uint64_t __real_hz_wanted(const uint64_t *, size_t, uint64_t *, size_t);
@@ -166,6 +242,14 @@ uint64_t __wrap_hz_wanted(const uint64_t *record, size_t record_len, uint64_t *a
         answer[0] = 0;
         return HZ_WANTED;
     }
+    if (code == HZ_REFUSED && answer[0] == 19 && overlooked("hz_wanted", record)) {
+        uint64_t other[HZ_RECORD_WORDS];
+        memcpy(other, record, sizeof other);
+        right_counters(record, other + HZ_MASK_TAKEN);
+        return __real_hz_wanted(other, record_len, answer, answer_len);
+    }
+    if (code == HZ_REFUSED)
+        spoil_place("hz_wanted", record, answer);
     return code;
 }
 
@@ -201,6 +285,49 @@ static uint64_t zero_draw(const uint64_t *record, const uint8_t *nonzero)
     return at;
 }
 
+/* The counters that an accepted step leaves become wrong. */
+static void spoil_counters(uint64_t code, const uint64_t *before, uint64_t *record)
+{
+    bool all = fault("place alone"), nonzero = fault("mask moved alone");
+    bool mask = (fault("stop without Check") && code == HZ_STOPPED) || (fault("done without Open") && code == HZ_DONE);
+    if (all || mask)
+        record[HZ_MASK_TAKEN] = before[HZ_MASK_TAKEN];
+    if (all || nonzero)
+        record[HZ_NONZERO_TAKEN] = before[HZ_NONZERO_TAKEN];
+}
+
+/* The value of T[j,j]. */
+static uint8_t pivot(const uint64_t *record, const uint8_t *table)
+{
+    uint64_t n = record[HZ_SHARES], m = record[HZ_SIZE], j = record[HZ_J];
+    uint8_t sum = 0;
+    for (uint64_t s = 0; s < n; s++)
+        sum ^= table[((j - 1) * (m + 1) + (j - 1)) * n + s];
+    return sum;
+}
+
+/* A refusal of hz_step by 19, or one that comes before it, becomes another one. */
+static void spoil_order(const uint64_t *record, const uint8_t *table, size_t table_len, size_t mask_len,
+                        uint64_t *answer)
+{
+    uint64_t number = answer[0], step = record[HZ_STEP], j = record[HZ_J], right[2];
+    if (number != 5 && number != 19)
+        return;
+    right_counters(record, right);
+    bool wrong = record[HZ_MASK_TAKEN] != right[0] || record[HZ_NONZERO_TAKEN] != right[1];
+    if (fault("19 before 5") && number == 5 && wrong)
+        told(HZ_REFUSED, answer, 19, 0, 0, 0);
+    if (number == 5 || step > HZ_OPEN)
+        return;
+    uint64_t mask = model_mask_draws(record[HZ_FIELD], record[HZ_SHARES], record[HZ_SIZE], step, j);
+    if (fault("19 after 6") && record[HZ_FIELD] == 16 && first_large(table, table_len) < table_len)
+        told_byte(record[HZ_SHARES], record[HZ_SIZE], first_large(table, table_len), answer);
+    if (fault("19 after 7") && mask_len < mask)
+        told(HZ_REFUSED, answer, 7, mask, 0, 0);
+    if (fault("19 after 12") && step == HZ_SCALE && pivot(record, table) == 0)
+        told(HZ_REFUSED, answer, 12, j, j, 0);
+}
+
 uint64_t __real_hz_step(uint64_t *, size_t, uint8_t *, size_t, uint8_t *, size_t, const uint8_t *, size_t,
                         const uint8_t *, size_t, uint64_t *, size_t);
 uint64_t __wrap_hz_step(uint64_t *record, size_t record_len, uint8_t *table, size_t table_len, uint8_t *solution,
@@ -213,10 +340,29 @@ uint64_t __wrap_hz_step(uint64_t *record, size_t record_len, uint8_t *table, siz
     BYTES(hz_step, mask);
     BYTES(hz_step, nonzero);
     WORDS(hz_step, answer);
+    uint64_t before[HZ_RECORD_WORDS] = {0};
+    if (record_len == HZ_RECORD_WORDS)
+        memcpy(before, record, sizeof before);
     uint64_t code = __real_hz_step(record, record_len, table, table_len, solution, solution_len, mask, mask_len,
                                    nonzero, nonzero_len, answer, answer_len);
-    if (code != HZ_REFUSED)
+    if (code == HZ_BAD_WORDS)
         return code;
+    if (code != HZ_REFUSED) {
+        spoil_counters(code, before, record);
+        return code;
+    }
+    if (answer[0] == 19 && overlooked("hz_step", record)) {
+        right_counters(record, record + HZ_MASK_TAKEN);
+        code = __real_hz_step(record, record_len, table, table_len, solution, solution_len, mask, mask_len, nonzero,
+                              nonzero_len, answer, answer_len);
+        if (code == HZ_REFUSED)
+            memcpy(record, before, sizeof before);
+        return code;
+    }
+    if (fault("refused adds") || (fault("12 adds") && answer[0] == 12)) {
+        record[HZ_MASK_TAKEN] += mask_len;
+        record[HZ_NONZERO_TAKEN] += nonzero_len;
+    }
     if (fault("longer mask") && answer[0] == 14)
         return __real_hz_step(record, record_len, table, table_len, solution, solution_len, mask, answer[1], nonzero,
                               nonzero_len, answer, answer_len);
@@ -226,6 +372,8 @@ uint64_t __wrap_hz_step(uint64_t *record, size_t record_len, uint8_t *table, siz
     if (fault("9 before 15") && answer[0] == 15 && zero_draw(record, nonzero) < answer[1])
         return told(HZ_REFUSED, answer, 9, zero_draw(record, nonzero), 0, 0);
     spoil_step(record, mask_len, nonzero_len, answer);
+    spoil_order(record, table, table_len, mask_len, answer);
+    spoil_place("hz_step", record, answer);
     return HZ_REFUSED;
 }
 

@@ -108,7 +108,7 @@ static uint8_t some_pivot(void)
 static void new_values(input *in)
 {
     uint8_t table[ROOM], solution[96];
-    uint64_t record[6];
+    uint64_t record[HZ_RECORD_WORDS];
     do {
         for (size_t e = 0; e < entries; e++)
             in->values[e] = element();
@@ -173,9 +173,14 @@ static void make_same_opened(void)
 
 /* ---- Calls ---- */
 
-static void first_record(uint64_t record[6])
+/* A record at the scene's step, as the steps before it leave it. A whole solve has none. */
+static void first_record(uint64_t record[HZ_RECORD_WORDS])
 {
-    memcpy(record, (uint64_t[6]){size.field, size.n, size.m, now->step, now->j, now->k}, 6 * sizeof *record);
+    memcpy(record, (uint64_t[HZ_RECORD_WORDS]){size.field, size.n, size.m, now->step, now->j, now->k},
+           HZ_RECORD_WORDS * sizeof *record);
+    if (now->step != WHOLE)
+        model_taken(size.field, size.n, size.m, now->step, now->j, now->k, &record[HZ_MASK_TAKEN],
+                    &record[HZ_NONZERO_TAKEN]);
 }
 
 static uint64_t model_outcome(const input *in, uint8_t *table, uint8_t *solution, uint64_t *record)
@@ -187,14 +192,14 @@ static uint64_t model_outcome(const input *in, uint8_t *table, uint8_t *solution
     if (now->step == WHOLE)
         return model_solve(size.field, size.n, size.m, table, table_len, solution, size.m, in->mask, mask_len,
                            in->nonzero, nonzero_len, answer, 4);
-    return model_step(record, 6, table, table_len, solution, size.m, in->mask, mask_len, in->nonzero, nonzero_len,
-                      answer, 4);
+    return model_step(record, HZ_RECORD_WORDS, table, table_len, solution, size.m, in->mask, mask_len, in->nonzero,
+                      nonzero_len, answer, 4);
 }
 
 /* Runs the library on an input, and makes sure that it does what the model does. */
 static void call(const input *in, bool values, trace *t)
 {
-    uint64_t record[6], code, empty[4] = {0};
+    uint64_t record[HZ_RECORD_WORDS], code, empty[4] = {0};
     uint8_t table[ROOM], solution[96], wanted_table[ROOM], wanted_solution[96] = {0};
     first_record(record);
     x86_reset(machine);
@@ -211,8 +216,8 @@ static void call(const input *in, bool values, trace *t)
                           13, values, t);
     else
         code = trace_call(machine, "hz_step",
-                          (uint64_t[]){at_record, 6, at_table, table_len, at_solution, size.m, at_mask, mask_len,
-                                       at_nonzero, nonzero_len, at_answer, 4},
+                          (uint64_t[]){at_record, HZ_RECORD_WORDS, at_table, table_len, at_solution, size.m, at_mask,
+                                       mask_len, at_nonzero, nonzero_len, at_answer, 4},
                           12, values, t);
     x86_take(machine, at_table, table, table_len);
     x86_take(machine, at_solution, solution, size.m);
@@ -316,12 +321,12 @@ typedef size_t visitor(int r, size_t at, const uint64_t *record, const rule *rul
 
 static void walk(int r, visitor *visit)
 {
-    uint64_t record[6], answer[4], code;
+    uint64_t record[HZ_RECORD_WORDS], answer[4], code;
     uint8_t table[ROOM], solution[96];
     const uint8_t *mask = inputs[r].mask, *nonzero = inputs[r].nonzero;
     memcpy(table, inputs[r].table, table_len);
     if (now->step == WHOLE)
-        model_start(size.field, size.n, size.m, record, 6, answer, 4);
+        model_start(size.field, size.n, size.m, record, HZ_RECORD_WORDS, answer, 4);
     else
         first_record(record);
     size_t at = 0;
@@ -330,7 +335,8 @@ static void walk(int r, visitor *visit)
         uint64_t masks = model_mask_draws(size.field, size.n, size.m, record[HZ_STEP], record[HZ_J]);
         uint64_t nonzeros = model_nonzero_draws(size.n, record[HZ_STEP]);
         at = visit(r, at, record, rules, rules_of(&size, record, table, mask, nonzero, rules));
-        code = model_step(record, 6, table, table_len, solution, size.m, mask, masks, nonzero, nonzeros, answer, 4);
+        code = model_step(record, HZ_RECORD_WORDS, table, table_len, solution, size.m, mask, masks, nonzero, nonzeros,
+                          answer, 4);
         mask += masks;
         nonzero += nonzeros;
     } while (now->step == WHOLE && (code == HZ_MOVED || code == HZ_OPENED));

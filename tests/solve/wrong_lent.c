@@ -9,6 +9,7 @@
  *     draw                a step's first nonzero draw is 0
  *     step, ended         the record is at step 9, or done
  *     pivot               the first step is Scale(1) instead
+ *     masks, nonzeros     the record counts a mask draw too many, or a nonzero draw
  *
  * Linked with --wrap for the four calls. */
 #include "hostozaro.h"
@@ -67,13 +68,19 @@ uint64_t __wrap_hz_step(uint64_t *record, size_t record_len, uint8_t *table, siz
     if (wrong("pivot")) {
         record[HZ_STEP] = HZ_SCALE;
         record[HZ_K] = 0;
+        record[HZ_MASK_TAKEN] = 12; /* 7 of Mix(1,2) and 5 of Check(1), or 19 would come before 12 */
         return __real_hz_step(record, record_len, table, table_len, solution, solution_len, draws, 8, draws, 1, answer,
                               answer_len);
     }
     if (wrong("step") || wrong("ended")) {
         record[HZ_STEP] = wrong("step") ? 9 : HZ_AT_DONE;
         record[HZ_J] = record[HZ_K] = 0;
+        hz_counts(record[HZ_FIELD], record[HZ_SHARES], record[HZ_SIZE], answer, answer_len);
+        record[HZ_MASK_TAKEN] = answer[1]; /* a full solve's, or 19 would come before 11 */
+        record[HZ_NONZERO_TAKEN] = answer[2];
     }
+    record[HZ_MASK_TAKEN] += wrong("masks");
+    record[HZ_NONZERO_TAKEN] += wrong("nonzeros");
     if (wrong("draw") && nonzero_len > 0)
         ((uint8_t *)nonzero)[0] = 0;
     mask_len = wrong("short") ? mask_len - 1 : wrong("long") ? mask_len + 1 : mask_len;

@@ -224,6 +224,7 @@ static void step_row(uint64_t seed, uint64_t field, uint64_t n, uint64_t m, uint
     static const char *const names[] = {
         [HZ_MIX] = "Mix", [HZ_CHECK] = "Check", [HZ_SCALE] = "Scale", [HZ_CLEAR] = "Clear", [HZ_OPEN] = "Open"};
     uint64_t record[HZ_RECORD_WORDS] = {field, n, m, step, j, k}, answer[HZ_ANSWER_WORDS];
+    model_taken(field, n, m, step, j, k, &record[HZ_MASK_TAKEN], &record[HZ_NONZERO_TAKEN]);
     task t = made_up(seed, field, n, m);
     set_value(&t, (j - 1) * (m + 1) + (c - 1), v);
     t.mask.taken = model_mask_draws(field, n, m, step, j);

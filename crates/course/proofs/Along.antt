@@ -14,10 +14,9 @@ use Rattle.course.specs.declared.Step.the-variants.{Mix, Check, Scale, C
 use Rattle.course.specs.declared.Place.{Place}
 use Rattle.course.specs.declared.Place.the-variants.{At, Stopped, Done}
 use Rattle.course.specs.declared.Order.{Order}
-use Rattle.course.specs.declared.Progress.{Progress}
 use Rattle.course.specs.declared.Counts.{Counts}
 use Rattle.course.specs.StepList.{stepList, upTo, inList, maskCost, nonzeroCost, sumOver, sums, fullMask, fullNonzero}
-use Rattle.course.specs.Next.{firstOf, following, nextOf, Chain}
+use Rattle.course.specs.Next.{firstOf, following, Chain}
 use Rattle.course.proofs.Within.{within}
 use Rattle.course.proofs.Chain.{unique, chain as list-chain, tail, tail-chain, list-split}
 use Rattle.course.proofs.Members.{AllIn, all-in}
@@ -76,11 +75,6 @@ module _ (m : ℕ) where
   pub none : (rest : List Step) → Chain m Done rest Done → rest ≡ []
   none [] h = refl
   none (x ∷ xs) h = let z : _≡_ {A = ℕ} 0 1 = cc in absurd (let n : ⊥ = omega arith in n)
-
--- a record at a step of the list is moved on to the place after it
-pub next-place : {m : ℕ} (p : Progress) (s : Step) (x : ℕ) → p .size ≡ m → p .place ≡ At s → inList m s ≡ true → nextOf p x .place ≡ following m s x
-unfolding nextOf
-next-place p s x z e h = rw (z, e, h)
 
 -- k steps, a mask draws and b nonzero draws
 abbrev pub told : ℕ → ℕ → ℕ → Counts

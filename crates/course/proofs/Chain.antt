@@ -98,7 +98,7 @@ module _ (m : ℕ) where
   unfolding tail
   tail-chain j a l = (refl, join _ _ _ (each (Clear j) (j + 1) (m - j)) _ (clears j l) (onward (omega arith) (m - j) j (omega arith)))
 
-  columns-split : (n k a b c : ℕ) → b ≡ n + k → c ≡ a + n → columns m a b ≡ columns m a n ++ columns m c k
+  pub columns-split : (n k a b c : ℕ) → b ≡ n + k → c ≡ a + n → columns m a b ≡ columns m a n ++ columns m c k
   unfolding columns
   columns-split zero k a b c e g =
       let x : b ≡ k = omega arith in

@@ -1,12 +1,20 @@
--- The counts of 01's examples: steps, mask draws and nonzero draws, each row by computation.
+-- The counts of 01's examples: steps, mask draws and nonzero draws, each row by computation. And R-5's: the mask and nonzero draws before each
+-- place, and records whose counters match and don't.
 -- Assumes nothing.
-use mathlib.Core.List.{[], _∷_}
+use mathlib.Core.Bool.{Bool, true, false}
+use mathlib.Core.List.{List, [], _∷_}
 use mathlib.Core.Path.{_≡_, refl}
 use Prim.Native.Nat.{ℕ}
 use Rattle.table.specs.Costs.{mixCost, checkCost, scaleCost, scaleNonzero, clearCost, openCost}
+use Rattle.course.specs.declared.Step.the-variants.{Mix, Check, Scale, Clear, Open}
+use Rattle.course.specs.declared.Place.{Place}
+use Rattle.course.specs.declared.Place.the-variants.{At, Stopped, Done}
+use Rattle.course.specs.declared.Draws.{Draws}
 use Rattle.course.specs.declared.Order.{Order}
 use Rattle.course.specs.declared.Counts.{Counts}
-use Rattle.course.specs.StepList.{each, column, columns, openings, stepList, upTo, costOf, sumOver, sums}
+use Rattle.course.specs.StepList.{each, column, columns, openings, stepList, upTo, draws, costOf, sumOver, sums}
+use Rattle.course.specs.Taken.{beforeStep, stepsBefore, takenAt}
+use Rattle.course.specs.Next.{recordAt, counted}
 use Rattle.sharing.specs.Rules.{inversionDraws}
 use Rattle.flag.specs.Flag.{folds, foldDraws}
 
@@ -26,3 +34,27 @@ pub figures : full 16 2 1 ∷ full 16 2 2 ∷ stopped 16 2 2 2 ∷ stopped 16 2 
     ≡ counts 3 12 1 ∷ counts 8 36 2 ∷ counts 5 28 1 ∷ counts 2 12 0 ∷ counts 3 35 2 ∷ counts 3 14 1 ∷ counts 9408 3778608 288 ∷ []
 unfolding folds foldDraws inversionDraws mixCost checkCost scaleCost scaleNonzero clearCost openCost each column columns openings stepList upTo costOf sumOver sums
 figures = refl
+
+-- the places of two equations, in the list's order, and its ends
+abbrev places : (Place → Draws) → List Draws
+places f =
+    f (At (Mix 1 2)) ∷ f (At (Check 1)) ∷ f (At (Scale 1)) ∷ f (At (Clear 1 2)) ∷ f (At (Check 2)) ∷ f (At (Scale 2)) ∷ f (At (Open 2)) ∷ f (At (Open 1))
+    ∷ f Done ∷ f (Stopped 1) ∷ f (Stopped 2) ∷ []
+
+pub taken-16 : places (takenAt (order 16 2 2))
+    ≡ draws 0 0 ∷ draws 7 0 ∷ draws 12 0 ∷ draws 20 1 ∷ draws 23 1 ∷ draws 28 1 ∷ draws 34 2 ∷ draws 35 2 ∷ draws 36 2 ∷ draws 12 0 ∷ draws 28 1 ∷ []
+unfolding folds foldDraws inversionDraws mixCost checkCost scaleCost scaleNonzero clearCost openCost each column columns openings stepList upTo costOf sumOver beforeStep stepsBefore takenAt
+taken-16 = refl
+
+pub taken-256 : places (takenAt (order 256 3 2))
+    ≡ draws 0 0 ∷ draws 24 0 ∷ draws 42 0 ∷ draws 67 2 ∷ draws 76 2 ∷ draws 94 2 ∷ draws 113 4 ∷ draws 116 4 ∷ draws 119 4 ∷ draws 42 0 ∷ draws 94 2 ∷ []
+unfolding folds foldDraws inversionDraws mixCost checkCost scaleCost scaleNonzero clearCost openCost each column columns openings stepList upTo costOf sumOver beforeStep stepsBefore takenAt
+taken-256 = refl
+
+abbrev matches : Place → ℕ → ℕ → Bool
+matches place mask nonzero = counted (recordAt (order 16 2 2) place mask nonzero)
+
+pub matched : matches (At (Check 1)) 7 0 ∷ matches (At (Check 1)) 7 1 ∷ matches Done 35 2 ∷ matches Done 36 2 ∷ matches (Stopped 2) 23 1 ∷ matches (Stopped 2) 28 1 ∷ []
+    ≡ true ∷ false ∷ false ∷ true ∷ false ∷ true ∷ []
+unfolding folds foldDraws inversionDraws mixCost checkCost scaleCost scaleNonzero clearCost openCost each column columns openings stepList upTo costOf sumOver beforeStep stepsBefore takenAt counted
+matched = refl

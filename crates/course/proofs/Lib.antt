@@ -2,5 +2,8 @@ pub mod Within
 pub mod Chain
 pub mod Members
 pub mod Sums
+pub mod Before
+pub mod Closed
+pub mod Moving
 pub mod Along
 pub mod Examples

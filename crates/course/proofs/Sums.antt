@@ -60,7 +60,7 @@ list-small m h = rw (list-length m) (mul-le-mul {n₁ = m} {m₁ = m + 2} {n₂ 
 -- the nonzero draws
 
 module _ (o : Order) where
-  each-none : (f : ℕ → Step) → ((k : ℕ) → nonzeroCost o (f k) ≡ 0) → (a n : ℕ) → sumOver (nonzeroCost o) (each f a n) ≡ 0
+  pub each-none : (f : ℕ → Step) → ((k : ℕ) → nonzeroCost o (f k) ≡ 0) → (a n : ℕ) → sumOver (nonzeroCost o) (each f a n) ≡ 0
   unfolding each sumOver
   each-none f h a zero = refl
   each-none f h a (suc n) = omega (arith, h a, each-none f h (a + 1) n)
@@ -76,7 +76,7 @@ module _ (o : Order) where
       rw (sum-append (nonzeroCost o) (each (Mix j) (j + 1) (m - j)) (Check j ∷ Scale j ∷ each (Clear j) (j + 1) (m - j)))
       (omega (arith, each-none (Mix j) (λ k. refl) (j + 1) (m - j), each-none (Clear j) (λ k. refl) (j + 1) (m - j)))
 
-  columns-nonzero : (m j n : ℕ) → sumOver (nonzeroCost o) (columns m j n) ≡ n * (o .shares - 1)
+  pub columns-nonzero : (m j n : ℕ) → sumOver (nonzeroCost o) (columns m j n) ≡ n * (o .shares - 1)
   unfolding columns sumOver
   columns-nonzero m j zero = omega arith
   columns-nonzero m j (suc n) =

@@ -1,2 +1,4 @@
 pub mod StepList
+pub mod Taken
 pub mod Next
+pub mod Code

@@ -1,10 +1,11 @@
 -- 01: "Its next place is worked out from the record by value and handed back: the next in the list, done after the last, or stopped at j
--- where Check opened 1." A record whose place is ended or not in the list stays as it is.
+-- where Check opened 1." 02, R-5: "The progress record gains the mask and nonzero draws taken so far."
 -- Assumes nothing.
+use mathlib.Core.Bool.{Bool, _&&_}
 use mathlib.Core.List.{List, [], _∷_}
 use mathlib.Core.Path.{_≡_}
 use Prim.Native.Nat.{ℕ, _+_, _-_}
-use lib.Dec.{ltb, eqb}
+use lib.Dec.{ltb, leb, eqb}
 use Rattle.field.specs.Field.{pick}
 use Rattle.course.specs.declared.Step.{Step}
 use Rattle.course.specs.declared.Step.the-variants.{Mix, Check, Scale, Clear, Open}
@@ -12,7 +13,8 @@ use Rattle.course.specs.declared.Place.{Place}
 use Rattle.course.specs.declared.Place.the-variants.{At, Stopped, Done}
 use Rattle.course.specs.declared.Order.{Order}
 use Rattle.course.specs.declared.Progress.{Progress}
-use Rattle.course.specs.StepList.{inList}
+use Rattle.course.specs.StepList.{sized, inList, maskCost, nonzeroCost}
+use Rattle.course.specs.Taken.{takenAt}
 
 -- the first place of column j: there is no Mix in the last column
 unfoldable pub firstOf : ℕ → ℕ → Place
@@ -26,20 +28,48 @@ following m (Scale j) x = pick (ltb j m) (At (Clear j (j + 1))) (At (Open m))
 following m (Clear j k) x = pick (ltb k m) (At (Clear j (k + 1))) (firstOf m (j + 1))
 following m (Open j) x = pick (ltb 1 j) (At (Open (j - 1))) Done
 
-abbrev pub placeAfter : ℕ → Place → ℕ → Place
-placeAfter m (At s) x = pick (inList m s) (following m s x) (At s)
-placeAfter m (Stopped j) x = Stopped j
-placeAfter m Done x = Done
+-- a record of an order at a place, with so many mask draws and nonzero draws taken
+abbrev pub recordAt : Order → Place → ℕ → ℕ → Progress
+recordAt o place mask nonzero =
+    record { field = o .field; shares = o .shares; size = o .size; place = place; mask = mask; nonzero = nonzero }
 
--- the record at the following place
+abbrev pub orderOf : Progress → Order
+orderOf p = record { field = p .field; shares = p .shares; size = p .size }
+
+-- a counter and a step's draws together, in 64 bits
+unfoldable pub fits : ℕ → ℕ → Bool
+fits taken draws = leb (taken + draws) 18446744073709551615
+
+-- a record moves on from a step of the list of an order that is taken, where its counters have room for the step's draws
+unfoldable pub moves : Progress → Step → Bool
+moves p s =
+    let o = orderOf p in
+    (sized o && inList (o .size) s) && (fits (p .mask) (maskCost o s) && fits (p .nonzero) (nonzeroCost o s))
+
+-- moved on from step s, which opened x: the step's draws are added
+abbrev pub movedOn : Progress → Step → ℕ → Progress
+movedOn p s x =
+    let o = orderOf p in
+    recordAt o (following (o .size) s x) (p .mask + maskCost o s) (p .nonzero + nonzeroCost o s)
+
+abbrev pub nextFrom : Progress → Place → ℕ → Progress
+nextFrom p (At s) x = pick (moves p s) (movedOn p s x) p
+nextFrom p (Stopped j) x = p
+nextFrom p Done x = p
+
+-- the record at the following place; any other record stays as it is
 unfoldable pub nextOf : Progress → ℕ → Progress
-nextOf p x =
-    record { field = p .field; shares = p .shares; size = p .size; place = placeAfter (p .size) (p .place) x }
+nextOf p x = nextFrom p (p .place) x
 
--- a fresh record
+-- a fresh record: nothing is taken yet
 unfoldable pub startOf : Order → Progress
-startOf o =
-    record { field = o .field; shares = o .shares; size = o .size; place = firstOf (o .size) 1 }
+startOf o = recordAt o (firstOf (o .size) 1) 0 0
+
+-- whether a record's counters match its place
+unfoldable pub counted : Progress → Bool
+counted p =
+    let d = takenAt (orderOf p) (p .place) in
+    eqb (p .mask) (d .mask) && eqb (p .nonzero) (d .nonzero)
 
 -- from place p the steps of the list are met one after the other, where no Check opens 1, and then place q
 abbrev pub Chain : ℕ → Place → List Step → Place → Type 0

@@ -1,8 +1,13 @@
 // The course of a solve: the step list, the progress record and its next place, and what the steps draw. Stands on table, for the costs.
 ghost use mathlib.Core.Path.{_≡_};
 ghost use mathlib.Core.Bool.{true};
-ghost use Rattle.course.specs.StepList.{Sizes, inList, costOf, stepList, sums};
-ghost use Rattle.course.specs.Next.{firstOf, following, nextOf, startOf};
+ghost use mathlib.Core.Bool.{_&&_, _||_};
+ghost use Prim.Native.Nat.{_+_, _*_, _≤_};
+ghost use lib.Dec.{eqb, leb};
+ghost use Rattle.sharing.specs.Bounds.{mostRows, mostWidth};
+ghost use Rattle.course.specs.StepList.{Sizes, sized, inList, costOf, stepList, sums};
+ghost use Rattle.course.specs.Next.{firstOf, following, orderOf, fits, nextOf, startOf};
+ghost use Rattle.course.specs.Code.Closed.{flagsOver, rowsOver, partAt, partOf, Stands, Kept, weighed, maskOf, agrees};
 
 // One of the five steps with its j and k. Check, Scale and Open carry j only.
 pub enum Step {
@@ -26,12 +31,14 @@ pub struct Order {
     pub size: u64,
 }
 
-// The progress record.
+// The progress record, with the draws taken so far.
 pub struct Progress {
     pub field: u64,
     pub shares: u64,
     pub size: u64,
     pub place: Place,
+    pub mask: u64,
+    pub nonzero: u64,
 }
 
 // Mask draws and nonzero draws.
@@ -115,6 +122,44 @@ fn place_after(m: u64, s: Step, x: u8) -> Place
     }
 }
 
+fn is_field(q: u64) -> bool
+    ensures { λ r. ⌜ r ≡ eqb q 16 || eqb q 256 ⌝ }
+{
+    q == 16 || q == 256
+}
+
+fn is_between(low: u64, high: u64, x: u64) -> bool
+    ensures { λ r. ⌜ r ≡ leb low x && leb x high ⌝ }
+{
+    low <= x && x <= high
+}
+
+fn has_sizes(n: u64, m: u64) -> bool
+    ensures { λ r. ⌜ r ≡ (leb 2 n && leb n 4) && (leb 1 m && leb m mostRows) ⌝ }
+{
+    is_between(2, 4, n) && is_between(1, 96, m)
+}
+
+// Whether an order is one that is taken.
+fn is_sized(o: Order) -> bool
+    ensures { λ r. ⌜ r ≡ sized o ⌝ }
+{
+    is_field(o.field) && has_sizes(o.shares, o.size)
+}
+
+// Whether a step is one of the list of an order that is taken.
+fn is_listed(o: Order, s: Step) -> bool
+    ensures { λ r. ⌜ r ≡ sized o && inList (o .size) s ⌝ }
+{
+    is_sized(o) && in_list(o.size, s)
+}
+
+fn fits(taken: u64, draws: u64) -> bool
+    ensures { λ r. ⌜ r ≡ fits taken draws ⌝ }
+{
+    taken <= 18446744073709551615 - draws
+}
+
 impl Progress {
     // A fresh record.
     pub fn start(o: Order) -> Progress
@@ -125,10 +170,30 @@ impl Progress {
             shares: o.shares,
             size: o.size,
             place: first_of(o.size, 1),
+            mask: 0,
+            nonzero: 0,
         }
     }
 
-    // The record at the following place, where the step at its place opened x. A place that is ended or not in the list stays.
+    fn order(self) -> Order
+        ensures { λ r. ⌜ r ≡ orderOf self ⌝ }
+    {
+        Order {
+            field: self.field,
+            shares: self.shares,
+            size: self.size,
+        }
+    }
+
+    // Whether both counters have room for a step's draws.
+    fn has_room(self, mask: u64, nonzero: u64) -> bool
+        ensures { λ r. ⌜ r ≡ fits (self .mask) mask && fits (self .nonzero) nonzero ⌝ }
+    {
+        fits(self.mask, mask) && fits(self.nonzero, nonzero)
+    }
+
+    // The record at the following place, where the step at its place opened x: the step's draws are added to its counters, whatever they are. A
+    // record stays that is at no step of the list of an order that is taken, or whose counters have no room for the draws.
     pub fn next(self, x: u8) -> Progress
         ensures { λ r. ⌜ r ≡ nextOf self x ⌝ }
     {
@@ -136,12 +201,21 @@ impl Progress {
         let Place::At(s) = p else {
             return self;
         };
-        if in_list(self.size, s) {
+        let o = self.order();
+        if !is_listed(o, s) {
+            return self;
+        }
+        let d = cost(o, s);
+        let mask = d.mask as u64;
+        let nonzero = d.nonzero as u64;
+        if self.has_room(mask, nonzero) {
             Progress {
                 field: self.field,
                 shares: self.shares,
                 size: self.size,
                 place: place_after(self.size, s, x),
+                mask: self.mask + mask,
+                nonzero: self.nonzero + nonzero,
             }
         } else {
             self
@@ -185,28 +259,136 @@ pub fn cost(o: Order, s: Step) -> Draws
     }
 }
 
-// The counts of a full solve, by a walk over the step list.
+// What a place has taken beside the columns that are done: `width` is the columns of a row from the first column that is not done on (1 where
+// all are), `flags` so many zero flags more, and `more` and `less` so many times the N draws of all pairs.
+pub struct Part {
+    pub width: usize,
+    pub flags: usize,
+    pub more: usize,
+    pub less: usize,
+}
+
+fn flags_over(w: usize, y: usize) -> usize
+    requires { ⌜ (1 ≤ y) × (y ≤ w) × (w ≤ mostWidth) ⌝ }
+    ensures { λ r. ⌜ (r ≡ flagsOver w y) × (r ≤ 2 * mostWidth * mostWidth) ⌝ }
+{
+    (w - y) * (w + y - 1) / 2
+}
+
+fn rows_over(w: usize, y: usize) -> usize
+    requires { ⌜ (1 ≤ y) × (y ≤ w) × (w ≤ mostWidth) ⌝ }
+    ensures { λ r. ⌜ (r ≡ rowsOver w y) × (r ≤ 4 * mostWidth * mostWidth * mostWidth) ⌝ }
+{
+    let s = w + y;
+    (w - y) * (s * s - w * y - 1) / 3
+}
+
+fn part_at(m: usize, s: Step) -> Part
+    requires { ⌜ (m ≤ mostRows) × (inList m s ≡ true) ⌝ }
+    ensures { λ r. ⌜ r ≡ partAt (m + 1) s ⌝ }
+{
+    match s {
+        Step::Mix { j, k } => {
+            let y = m + 2 - j as usize;
+            let done = k as usize - j as usize - 1;
+            Part {
+                width: y,
+                flags: done,
+                more: done * y,
+                less: 0,
+            }
+        }
+        Step::Check(j) => {
+            let y = m + 2 - j as usize;
+            let done = m - j as usize;
+            Part {
+                width: y,
+                flags: done,
+                more: done * y,
+                less: 0,
+            }
+        }
+        Step::Scale(j) => {
+            let done = m + 1 - j as usize;
+            Part {
+                width: done + 1,
+                flags: done,
+                more: done * done,
+                less: 0,
+            }
+        }
+        Step::Clear { j, k } => {
+            let y = m + 1 - j as usize;
+            Part {
+                width: y,
+                flags: 0,
+                more: 0,
+                less: (m + 1 - k as usize) * (y + 1),
+            }
+        }
+        Step::Open(j) => Part {
+            width: 1,
+            flags: 0,
+            more: m - j as usize,
+            less: 0,
+        },
+    }
+}
+
+pub fn part_of(m: usize, p: Place) -> Part
+    requires { ⌜ (m ≤ mostRows) × Stands m p ⌝ }
+    ensures { λ r. ⌜ r ≡ partOf (m + 1) p ⌝ }
+{
+    match p {
+        Place::At(s) => part_at(m, s),
+        Place::Stopped(j) => part_at(m, Step::Scale(j)),
+        Place::Done => Part {
+            width: 1,
+            flags: 0,
+            more: m,
+            less: 0,
+        },
+    }
+}
+
+// The mask draws of c Inversions with their sharings, so many zero flags, and so many times all pairs.
+fn weighed(f: u64, n: usize, c: usize, flags: usize, times: usize) -> usize
+    requires { ⌜ (2 ≤ n) × (n ≤ 4) × (c ≤ mostWidth) × (flags ≤ 3 * mostWidth * mostWidth) × (times ≤ 9 * mostWidth * mostWidth * mostWidth) ⌝ }
+    ensures { λ r. ⌜ r ≡ weighed f n c flags times ⌝ }
+{
+    c * (n - 1) * (2 * n - 1) + flag::flag_draws(f, n) * flags + sharing::pair_count(n) * times
+}
+
+fn mask_of(f: u64, n: usize, w: usize, z: Part) -> usize
+    requires { ⌜ (2 ≤ n) × (n ≤ 4) × (w ≤ mostWidth) × Kept w z ⌝ }
+    ensures { λ r. ⌜ r ≡ maskOf f n w z ⌝ }
+{
+    let y = z.width;
+    let flags = flags_over(w, y) + z.flags;
+    let times = 2 * rows_over(w, y) - z.less + z.more;
+    weighed(f, n, w - y, flags, times)
+}
+
+// Whether the counters are those of the place that has this part.
+pub fn agrees(o: Order, z: Part, mask: u64, nonzero: u64) -> bool
+    requires { ⌜ Sizes o × Kept (o .size + 1) z ⌝ }
+    ensures { λ r. ⌜ r ≡ agrees o z mask nonzero ⌝ }
+{
+    let n = o.shares as usize;
+    let w = o.size as usize + 1;
+    mask == mask_of(o.field, n, w, z) as u64 && nonzero == ((w - z.width) * (n - 1)) as u64
+}
+
+// The counts of a full solve: those of a record that is done.
 pub fn full_counts(o: Order) -> Counts
     requires { ⌜ Sizes o ⌝ }
     ensures { λ r. ⌜ r ≡ sums o (stepList (o .size)) ⌝ }
 {
-    let mut p = Progress::start(o);
-    let mut steps: usize = 0;
-    let mut mask: usize = 0;
-    let mut nonzero: usize = 0;
-    loop {
-        let q = p.place;
-        let Place::At(s) = q else {
-            return Counts {
-                steps,
-                mask,
-                nonzero,
-            };
-        };
-        let d = cost(o, s);
-        p = p.next(0);
-        steps += 1;
-        mask += d.mask;
-        nonzero += d.nonzero;
+    let n = o.shares as usize;
+    let m = o.size as usize;
+    Counts {
+        steps: m * (m + 2),
+        mask: mask_of(o.field, n, m + 1, part_of(m, Place::Done)),
+        nonzero: m * (n - 1),
     }
 }

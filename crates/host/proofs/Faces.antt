@@ -13,7 +13,7 @@ use Rattle.solver.specs.Calls.{Stride, Lent, lent}
 use Rattle.host.specs.declared.replies.Reply.{Reply}
 use Rattle.host.specs.Words.{wordsOf, kept}
 use Rattle.host.specs.Replies.{refusalReply, reply, fourOf, said, freshReply, strideReply}
-use Rattle.host.specs.Faces.{Back, back, handed, worded, four, sixFour, startHanded, recorded, stepHanded}
+use Rattle.host.specs.Faces.{Back, back, handed, worded, four, eightFour, startHanded, recorded, stepHanded}
 
 module _ {L : Type 0} where
   pub words-wrong : (right : Bool) (found : L) (answer : List ℕ) (does : Back L) → right ≡ false → back 99 found answer ≡ worded right found answer does
@@ -26,17 +26,17 @@ module _ {L : Type 0} where
 
 -- the words of a record and of an answer, counted; the code has a truth value for whether the second is wrong
 module _ (words answer : ℕ) where
-  pub not-six : (words ≡ 6 → ⊥) → sixFour words answer ≡ false
-  unfolding sixFour
-  not-six h = rw (ne-eqb _ _ h)
+  pub not-eight : (words ≡ 8 → ⊥) → eightFour words answer ≡ false
+  unfolding eightFour
+  not-eight h = rw (ne-eqb _ _ h)
 
-  pub not-four : words ≡ 6 → not (four answer) ≡ true → sixFour words answer ≡ false
-  unfolding sixFour
+  pub not-four : words ≡ 8 → not (four answer) ≡ true → eightFour words answer ≡ false
+  unfolding eightFour
   not-four e h = rw (eq-eqb _ _ e, not-true (four answer) h)
 
-  pub six-and-four : words ≡ 6 → not (four answer) ≡ false → sixFour words answer ≡ true
-  unfolding sixFour
-  six-and-four e h = rw (eq-eqb _ _ e, not-false (four answer) h)
+  pub eight-and-four : words ≡ 8 → not (four answer) ≡ false → eightFour words answer ≡ true
+  unfolding eightFour
+  eight-and-four e h = rw (eq-eqb _ _ e, not-false (four answer) h)
 
 -- what `say` ensures: the code, and the answer's words
 abbrev pub Said : ℕ → List ℕ → Reply → Type 0

@@ -23,13 +23,21 @@ four-set (p ∷ q ∷ r ∷ []) a b c d h = absurd (omega arith)
 four-set (p ∷ q ∷ r ∷ s ∷ []) a b c d h = refl
 four-set (p ∷ q ∷ r ∷ s ∷ t ∷ l) a b c d h = absurd (omega arith)
 
-pub six-set : (l : List ℕ) (a b c d e f : ℕ) → length l ≡ 6
+six-set : (l : List ℕ) (a b c d e f : ℕ) → length l ≡ 6
     → set (set (set (set (set (set l 0 a) 1 b) 2 c) 3 d) 4 e) 5 f ≡ a ∷ b ∷ c ∷ d ∷ e ∷ f ∷ []
 six-set [] a b c d e f h = absurd (omega arith)
 six-set (p ∷ []) a b c d e f h = absurd (omega arith)
 six-set (p ∷ q ∷ l) a b c d e f h =
     let g : length l ≡ 4 = omega arith in
     ap (λ (t : List ℕ). a ∷ b ∷ t) (four-set l c d e f g)
+
+pub eight-set : (l : List ℕ) (a b c d e f g i : ℕ) → length l ≡ 8
+    → set (set (set (set (set (set (set (set l 0 a) 1 b) 2 c) 3 d) 4 e) 5 f) 6 g) 7 i ≡ a ∷ b ∷ c ∷ d ∷ e ∷ f ∷ g ∷ i ∷ []
+eight-set [] a b c d e f g i h = absurd (omega arith)
+eight-set (p ∷ []) a b c d e f g i h = absurd (omega arith)
+eight-set (p ∷ q ∷ l) a b c d e f g i h =
+    let n : length l ≡ 6 = omega arith in
+    ap (λ (t : List ℕ). a ∷ b ∷ t) (six-set l c d e f g i n)
 
 -- a place written and read again is the same
 pub place-again : (p : Place) → placeOf (spotOf p .step) (spotOf p .j) (spotOf p .k) ≡ p
@@ -46,7 +54,7 @@ place-again Done = refl
 pub record-again : (p : Progress) → progressOf (wordsOf p) ≡ p
 unfolding progressOf wordsOf
 record-again p =
-    ap (λ (q : Place). record { field = p .field; shares = p .shares; size = p .size; place = q }) (place-again (p .place))
+    ap (λ (q : Place). record { field = p .field; shares = p .shares; size = p .size; place = q; mask = p .mask; nonzero = p .nonzero }) (place-again (p .place))
 
 -- the words after a step: as found on a refusal, else the next place's
 module _ (code : ℕ) (found : List ℕ) (p : Progress) where

@@ -41,8 +41,8 @@ worded right found answer does = pick right does (back 99 found answer)
 abbrev pub four : ℕ → Bool
 four answer = eqb answer 4
 
-unfoldable pub sixFour : ℕ → ℕ → Bool
-sixFour words answer = eqb words 6 && four answer
+unfoldable pub eightFour : ℕ → ℕ → Bool
+eightFour words answer = eqb words 8 && four answer
 
 -- ---- Start: the record is written where it is fresh
 
@@ -51,7 +51,7 @@ startHanded w (refuses l) = replied (said freshReply (refuses l)) w
 startHanded w (gives p) = replied (said freshReply (gives p)) (wordsOf p)
 
 unfoldable pub hzStart : Order → List ℕ → List ℕ → Back (List ℕ)
-hzStart o w answer = worded (sixFour (length w) (length answer)) w answer (startHanded w (startCall o .says))
+hzStart o w answer = worded (eightFour (length w) (length answer)) w answer (startHanded w (startCall o .says))
 
 -- ---- Step: the record's words, beside the table and the solution
 
@@ -69,12 +69,12 @@ stepHanded w o =
 
 unfoldable pub hzStep : List ℕ → Held → List ℕ → List ℕ → List ℕ → Back Recorded
 hzStep w h mask nonzero answer =
-    worded (sixFour (length w) (length answer)) (recorded w h) answer (stepHanded w (stepCall (progressOf w) h mask nonzero))
+    worded (eightFour (length w) (length answer)) (recorded w h) answer (stepHanded w (stepCall (progressOf w) h mask nonzero))
 
 -- ---- Wanted: the record's words are read, and only read
 
 unfoldable pub hzWanted : List ℕ → List ℕ → Back Nothing
-hzWanted w answer = worded (sixFour (length w) (length answer)) tt answer (handed wantedReply (wantedCall (progressOf w)))
+hzWanted w answer = worded (eightFour (length w) (length answer)) tt answer (handed wantedReply (wantedCall (progressOf w)))
 
 -- ---- Solve, Deal, Gather, and the counts
 

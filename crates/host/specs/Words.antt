@@ -1,5 +1,5 @@
--- The record as six words, as include/hostozaro.h numbers them: field, shares, size, step, j, k. Any six words are read; those that name no
--- place are read as a place outside every list.
+-- The record as eight words, as include/hostozaro.h numbers them: field, shares, size, step, j, k, and the mask and nonzero draws taken. Any
+-- eight words are read; those that name no place are read as a place outside every list.
 -- Assumes nothing.
 use mathlib.Core.List.{List, [], _∷_}
 use Prim.Native.Nat.{ℕ}
@@ -51,7 +51,7 @@ spotOf (At s) = stepSpot s
 spotOf (Stopped j) = spot 5 j 0
 spotOf Done = spot 6 0 0
 
--- the record of six words
+-- the record of eight words
 unfoldable pub progressOf : List ℕ → Progress
 progressOf w =
     record {
@@ -59,13 +59,15 @@ progressOf w =
       shares = getD w 1 0;
       size = getD w 2 0;
       place = placeOf (getD w 3 0) (getD w 4 0) (getD w 5 0);
+      mask = getD w 6 0;
+      nonzero = getD w 7 0;
     }
 
--- the six words of a record
+-- the eight words of a record
 unfoldable pub wordsOf : Progress → List ℕ
 wordsOf p =
     let s = spotOf (p .place) in
-    p .field ∷ p .shares ∷ p .size ∷ s .step ∷ s .j ∷ s .k ∷ []
+    p .field ∷ p .shares ∷ p .size ∷ s .step ∷ s .j ∷ s .k ∷ p .mask ∷ p .nonzero ∷ []
 
 -- the words of a record after a step: as found where the code is 0, a refusal
 unfoldable pub kept : ℕ → List ℕ → Progress → List ℕ

@@ -22,7 +22,7 @@ pub extern "C" fn hz_start(
 ) -> u64
     ensures { λ r. ⌜ back r (now (record_words .exit)) (now (answer .exit)) ≡ hzStart (order field shares size) (now (record_words .entry)) (now (answer .entry)) ⌝ }
 {
-    if record_words.len() != 6 || answer.len() != 4 {
+    if record_words.len() != 8 || answer.len() != 4 {
         return 99;
     }
     match solver::start(field, shares, size) {
@@ -46,7 +46,7 @@ pub extern "C" fn hz_step(
 ) -> u64
     ensures { λ r. ⌜ back r (recorded (now (record_words .exit)) (held (now (table .exit)) (now (solution .exit)))) (now (answer .exit)) ≡ hzStep (now (record_words .entry)) (held (now (table .entry)) (now (solution .entry))) (now (mask .entry)) (now (nonzero .entry)) (now (answer .entry)) ⌝ }
 {
-    if record_words.len() != 6 || answer.len() != 4 {
+    if record_words.len() != 8 || answer.len() != 4 {
         return 99;
     }
     let s = solver::step(
@@ -68,7 +68,7 @@ pub extern "C" fn hz_step(
 pub extern "C" fn hz_wanted(record_words: &[u64], answer: &mut [u64]) -> u64
     ensures { λ r. ⌜ back r tt (now (answer .exit)) ≡ hzWanted (now (record_words .entry)) (now (answer .entry)) ⌝ }
 {
-    if record_words.len() != 6 || answer.len() != 4 {
+    if record_words.len() != 8 || answer.len() != 4 {
         return 99;
     }
     let w = solver::wanted(words::read(record_words));

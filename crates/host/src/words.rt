@@ -1,4 +1,4 @@
-// The record as six words: field, shares, size, step, j, k.
+// The record as eight words: field, shares, size, step, j, k, mask draws taken, nonzero draws taken.
 ghost use mathlib.Core.Path.{_≡_};
 ghost use lib.ListN.{length};
 ghost use Rattle.host.specs.Words.{nowhere, without, placeOf, stepSpot, spotOf, progressOf, wordsOf, kept};
@@ -69,9 +69,9 @@ fn spot_of(p: Place) -> Spot
     }
 }
 
-// The record of six words.
+// The record of eight words.
 pub fn read(record_words: &[u64]) -> Progress
-    requires { ⌜ length (now record_words) ≡ 6 ⌝ }
+    requires { ⌜ length (now record_words) ≡ 8 ⌝ }
     ensures { λ r. ⌜ r ≡ progressOf (now (record_words .entry)) ⌝ }
 {
     Progress {
@@ -79,12 +79,14 @@ pub fn read(record_words: &[u64]) -> Progress
         shares: record_words[1],
         size: record_words[2],
         place: place_of(record_words[3], record_words[4], record_words[5]),
+        mask: record_words[6],
+        nonzero: record_words[7],
     }
 }
 
-// The six words of a record.
+// The eight words of a record.
 pub fn write(record_words: &mut [u64], p: Progress)
-    requires { ⌜ length (now record_words) ≡ 6 ⌝ }
+    requires { ⌜ length (now record_words) ≡ 8 ⌝ }
     ensures { λ _. ⌜ now (record_words .exit) ≡ wordsOf p ⌝ }
 {
     let place = p.place;
@@ -95,11 +97,13 @@ pub fn write(record_words: &mut [u64], p: Progress)
     record_words[3] = s.step;
     record_words[4] = s.j;
     record_words[5] = s.k;
+    record_words[6] = p.mask;
+    record_words[7] = p.nonzero;
 }
 
 // The record after a step: its words as found where the code is 0, a refusal.
 pub fn keep(record_words: &mut [u64], code: u64, p: Progress)
-    requires { ⌜ length (now record_words) ≡ 6 ⌝ }
+    requires { ⌜ length (now record_words) ≡ 8 ⌝ }
     ensures { λ _. ⌜ now (record_words .exit) ≡ kept code (now (record_words .entry)) p ⌝ }
 {
     if code != 0 {

@@ -277,25 +277,55 @@ fn large(p: Progress) {
 }
 
 // One call on a record that a host made up, with the first system's table.
-fn made_up(field: u64, shares: u64, size: u64, place: Place, e: usize, f: usize) {
-    let p = Progress {
+fn made_up(p: Progress, e: usize, f: usize) {
+    call(begin(p, b"\x00\x01\x05\x01\x00\x07"), 0, e, 0, f);
+}
+
+fn fresh(field: u64, shares: u64, size: u64, place: Place) -> Progress {
+    Progress {
         field,
         shares,
         size,
         place,
-    };
-    call(begin(p, b"\x00\x01\x05\x01\x00\x07"), 0, e, 0, f);
+        mask: 0,
+        nonzero: 0,
+    }
+}
+
+// The same with counters, for the first system.
+fn counted(place: Place, mask: u64, nonzero: u64) -> Progress {
+    Progress {
+        field: 16,
+        shares: 2,
+        size: 2,
+        place,
+        mask,
+        nonzero,
+    }
 }
 
 fn strange() {
-    made_up(7, 0, 2, Place::Done, 0, 0);
-    made_up(16, 5, 2, Place::Done, 0, 0);
-    made_up(16, 2, 97, Place::Done, 0, 0);
-    made_up(16, 2, 3, Place::At(Step::Check(1)), 5, 0);
-    made_up(16, 2, 2, Place::Stopped(3), 0, 0);
-    made_up(16, 2, 2, Place::At(Step::Mix { j: 2, k: 2 }), 7, 0);
+    made_up(fresh(7, 0, 2, Place::Done), 0, 0);
+    made_up(fresh(16, 5, 2, Place::Done), 0, 0);
+    made_up(fresh(16, 2, 97, Place::Done), 0, 0);
+    made_up(fresh(16, 2, 3, Place::At(Step::Check(1))), 5, 0);
+    made_up(fresh(16, 2, 2, Place::Stopped(3)), 0, 0);
+    made_up(fresh(16, 2, 2, Place::At(Step::Mix { j: 2, k: 2 })), 7, 0);
     // the pivot is 0 before Mix
-    made_up(16, 2, 2, Place::At(Step::Scale(1)), 8, 1);
+    made_up(counted(Place::At(Step::Scale(1)), 12, 0), 8, 1);
+}
+
+// Counters that don't match the place, and ends whose counters do.
+fn uncounted() {
+    made_up(counted(Place::At(Step::Scale(1)), 7, 0), 8, 1);
+    made_up(counted(Place::At(Step::Check(1)), 7, 1), 5, 0);
+    made_up(counted(Place::At(Step::Check(1)), 0, 7), 5, 0);
+    let most: u64 = 18446744073709551615;
+    made_up(counted(Place::At(Step::Check(1)), most, most), 5, 0);
+    made_up(counted(Place::Stopped(2), 23, 1), 0, 0);
+    made_up(counted(Place::Stopped(2), 28, 1), 0, 0);
+    made_up(counted(Place::Done, 35, 2), 0, 0);
+    made_up(counted(Place::Done, 36, 2), 0, 0);
 }
 
 fn main() {
@@ -308,4 +338,5 @@ fn main() {
     io::write_all(1, b"\n");
     large(p);
     strange();
+    uncounted();
 }

@@ -18,13 +18,77 @@ use solver::Wanting;
 // Rows (0,1),(1,0), b = (5,7), in two shares.
 const TWO: [u8; 12] = [4, 4, 4, 5, 10, 15, 3, 2, 10, 10, 15, 8];
 
-fn at(o: Order, place: Place) -> Progress {
+// The mask and nonzero draws of a record.
+struct Drawn {
+    mask: u64,
+    nonzero: u64,
+}
+
+fn taken(mask: u64, nonzero: u64) -> Drawn {
+    Drawn { mask, nonzero }
+}
+
+fn with(o: Order, place: Place, t: Drawn) -> Progress {
     Progress {
         field: o.field,
         shares: o.shares,
         size: o.size,
         place,
+        mask: t.mask,
+        nonzero: t.nonzero,
     }
+}
+
+// R-5's sums for one equation in two shares over F16; of a step that is not in its list any will do.
+fn step_in_one(s: Step) -> Drawn {
+    match s {
+        Step::Mix { j: _, k: _ } => taken(0, 0),
+        Step::Check(_) => taken(0, 0),
+        Step::Scale(_) => taken(5, 0),
+        Step::Clear { j: _, k: _ } => taken(0, 0),
+        Step::Open(_) => taken(11, 1),
+    }
+}
+
+fn in_one(place: Place) -> Drawn {
+    match place {
+        Place::At(s) => step_in_one(s),
+        Place::Stopped(_) => taken(5, 0),
+        Place::Done => taken(12, 1),
+    }
+}
+
+fn by_column(j: u64, first: Drawn, second: Drawn) -> Drawn {
+    if j == 1 { first } else { second }
+}
+
+// For two equations.
+fn step_in_two(s: Step) -> Drawn {
+    match s {
+        Step::Mix { j: _, k: _ } => taken(0, 0),
+        Step::Check(j) => by_column(j, taken(7, 0), taken(23, 1)),
+        Step::Scale(j) => by_column(j, taken(12, 0), taken(28, 1)),
+        Step::Clear { j: _, k: _ } => taken(20, 1),
+        Step::Open(j) => by_column(j, taken(35, 2), taken(34, 2)),
+    }
+}
+
+fn in_two(place: Place) -> Drawn {
+    match place {
+        Place::At(s) => step_in_two(s),
+        Place::Stopped(j) => by_column(j, taken(12, 0), taken(28, 1)),
+        Place::Done => taken(36, 2),
+    }
+}
+
+// A record whose counters match its place, for two shares over F16.
+fn at(o: Order, place: Place) -> Progress {
+    let t = if o.size == 1 {
+        in_one(place)
+    } else {
+        in_two(place)
+    };
+    with(o, place, t)
 }
 
 fn begin_step(
@@ -286,7 +350,7 @@ fn step_two(words: &[u8], place: Place, mask: &[u8], nonzero: &[u8]) {
 fn scales_beyond_one() {
     let a = MASK;
     step_two(b"a zero pivot in row 2", scale(2), &a[..6], &[0xba]);
-    let p = at(order(16, 3, 1), scale(1));
+    let p = with(order(16, 3, 1), scale(1), taken(13, 0));
     let words = b"three shares, and the second nonzero draw is 0";
     step(
         words,
@@ -341,8 +405,48 @@ fn clears_of_two() {
     step_two(b"Open(2), accepted", open(2), &a[..1], &[]);
 }
 
+// Two equations in two shares over F16, with a large byte in the table and no tapes: 10 goes before 19, and 19 before 11, 6 and 7.
+fn counters(words: &[u8], place: Place, mask: u64, nonzero: u64) {
+    let p = with(order(16, 2, 2), place, taken(mask, nonzero));
+    let mut t = TWO;
+    t[11] = 0xf0;
+    step(words, p, &t, &BLANK, &[], &[]);
+}
+
+fn counters_of_steps() {
+    counters(b"Check(1) with a nonzero draw too many", check(1), 7, 1);
+    counters(b"Check(1) with a mask draw too many", check(1), 8, 0);
+    counters(b"Check(1) with a mask draw too few", check(1), 6, 0);
+    counters(b"Check(1) with the two exchanged", check(1), 0, 7);
+}
+
+fn counters_of_others() {
+    counters(b"Check(1) with those of the start", check(1), 0, 0);
+    counters(b"Check(1) with 2^64-1 twice", check(1), LARGEST, LARGEST);
+    counters(b"Mix(1,2) with 2^32 mask draws", mix(1, 2), 4294967296, 0);
+    counters(b"Scale(1) without its Check", scale(1), 7, 0);
+}
+
+fn counters_of_ends() {
+    let stopped = Place::Stopped(2);
+    counters(b"stopped at 2, without its Check", stopped, 23, 1);
+    counters(b"stopped at 2", stopped, 28, 1);
+    counters(b"done, a mask draw too few", Place::Done, 35, 2);
+    counters(b"done", Place::Done, 36, 2);
+}
+
+fn counters_beside_others() {
+    counters(b"Mix(2,2)", mix(2, 2), 0, 0);
+    let words = b"Mix(2,2) with 2^64-1 twice";
+    counters(words, mix(2, 2), LARGEST, LARGEST);
+    counters(b"Clear(1,2), and a large byte", clear(1, 2), 20, 1);
+}
+
 fn wanted(words: &[u8], o: Order, place: Place) {
-    let p = at(o, place);
+    wanted_of(words, at(o, place));
+}
+
+fn wanted_of(words: &[u8], p: Progress) {
     show::call::begin(b"wanted", words);
     show::record(p);
     show::call::middle();
@@ -373,6 +477,23 @@ fn wanted_off_list() {
     wanted(b"done", o, Place::Done);
 }
 
+fn wanted_counters(words: &[u8], place: Place, mask: u64, nonzero: u64) {
+    let o = order(16, 2, 2);
+    wanted_of(words, with(o, place, taken(mask, nonzero)));
+}
+
+fn wanted_of_counters() {
+    let words = b"Check(1) with a nonzero draw too many";
+    wanted_counters(words, check(1), 7, 1);
+    let words = b"Check(1) with 2^64-1 twice";
+    wanted_counters(words, check(1), LARGEST, LARGEST);
+    let words = b"done, a mask draw too few";
+    wanted_counters(words, Place::Done, 35, 2);
+    let words = b"stopped at 1, without its Check";
+    wanted_counters(words, Place::Stopped(1), 7, 0);
+    wanted_counters(b"Mix(2,2)", mix(2, 2), LARGEST, 0);
+}
+
 fn wanted_on_list() {
     let o = order(16, 2, 2);
     wanted(b"Mix, accepted", o, mix(1, 2));
@@ -380,6 +501,20 @@ fn wanted_on_list() {
     wanted(b"Scale, accepted", o, scale(1));
     wanted(b"Clear, accepted", o, clear(1, 2));
     wanted(b"Open, accepted", o, open(2));
+}
+
+fn steps_of_counters() {
+    counters_of_steps();
+    counters_of_others();
+    counters_of_ends();
+    counters_beside_others();
+}
+
+fn wants() {
+    wanted_of_sizes();
+    wanted_off_list();
+    wanted_of_counters();
+    wanted_on_list();
 }
 
 fn main() {
@@ -398,7 +533,6 @@ fn main() {
     mixes_of_two();
     scales_of_two();
     clears_of_two();
-    wanted_of_sizes();
-    wanted_off_list();
-    wanted_on_list();
+    steps_of_counters();
+    wants();
 }

@@ -252,12 +252,16 @@ pub fn record(p: Progress) {
     let place = p.place;
     text(b", at ");
     say_place(of_place(place));
+    number(b", taken ", p.mask);
+    number(b" and ", p.nonzero);
 }
 
 pub fn same_record(p: Progress, q: Progress) -> bool {
     let a = p.place;
     let b = q.place;
-    p.field == q.field && p.shares == q.shares && p.size == q.size && same(of_place(a), of_place(b))
+    let here = same(of_place(a), of_place(b));
+    let taken = p.mask == q.mask && p.nonzero == q.nonzero;
+    p.field == q.field && p.shares == q.shares && p.size == q.size && here && taken
 }
 
 // Whether two lists of bytes are the same.

@@ -8,12 +8,12 @@ use Rattle.course.specs.declared.Place.{Place}
 use Rattle.course.specs.declared.Place.the-variants.{At, Stopped, Done}
 use Rattle.course.specs.declared.Progress.{Progress}
 use Rattle.course.specs.StepList.{revealedBy}
-use Rattle.course.specs.Next.{nextOf}
+use Rattle.course.specs.Next.{orderOf, nextOf}
 use Rattle.walk.specs.declared.Ending.{Ending}
 use Rattle.walk.specs.Act.{Held, held, opened, acted}
 use Rattle.walk.specs.Walk.{Solution, leaves}
 use Rattle.verdict.specs.Calls.{Says, gives, after}
-use Rattle.solver.specs.Calls.{solveDoes, Stride, moved, tells, lent, orderOf, stepDoes}
+use Rattle.solver.specs.Calls.{solveDoes, Stride, moved, tells, lent, stepDoes}
 
 -- the ending of a solve, and what it leaves
 pub solve-done : (a : Says Ending) (e : Ending) (t x : List ℕ) (s : Solution) → a ≡ gives e → leaves e t x ≡ s → after a (held t x) ≡ solveDoes s

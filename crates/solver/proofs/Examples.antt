@@ -1,5 +1,5 @@
 -- R-2's calls, refused by the definitions: F16, two shares, two equations. Of what a step is lent the first that is wrong in its order is told;
--- of a table and of values the cell.
+-- of a table and of values the cell. And R-5's records, by their counters.
 -- Assumes nothing.
 use mathlib.Core.List.{List, [], _∷_, map}
 use mathlib.Core.Path.{_≡_, refl}
@@ -8,27 +8,34 @@ use Rattle.field.specs.Field.{F16, fieldOf}
 use Rattle.sharing.specs.Rules.{sum, inversionDraws}
 use Rattle.flag.specs.Flag.{folds, foldDraws}
 use Rattle.table.specs.Layout.{cell, part, tableBytes}
-use Rattle.table.specs.Costs.{mixCost, scaleCost, scaleNonzero}
-use Rattle.course.specs.declared.Step.the-variants.{Mix, Scale}
+use Rattle.table.specs.Costs.{mixCost, checkCost, scaleCost, scaleNonzero, clearCost, openCost}
+use Rattle.course.specs.declared.Step.the-variants.{Mix, Check, Scale}
 use Rattle.course.specs.declared.Place.{Place}
-use Rattle.course.specs.declared.Place.the-variants.{At}
-use Rattle.course.specs.StepList.{inList, costOf, revealedBy}
+use Rattle.course.specs.declared.Place.the-variants.{At, Stopped, Done}
+use Rattle.course.specs.declared.Progress.{Progress}
+use Rattle.course.specs.StepList.{each, column, columns, openings, stepList, upTo, sumOver, inList, costOf, revealedBy}
+use Rattle.course.specs.Taken.{beforeStep, stepsBefore, takenAt}
+use Rattle.course.specs.Next.{recordAt, counted}
 use Rattle.verdict.specs.Told.{Told, passed, refused, line, _or_}
 use Rattle.verdict.specs.Cells.{cellAt}
 use Rattle.verdict.specs.Refusals.{outside, firstPlace, tooLarge, zeroDraw, no1, no2, no3, no4, no5, no6, no7, no8, no9, no14, no15, numbers, buffers}
-use Rattle.solver.specs.Refusals.{placed, ended, entries, costAt, zeroPivot, columnOf, no10, no11, no12, dealOrder, gatherOrder, solveOrder, standing, placing, lending, stepOrder}
+use Rattle.solver.specs.Refusals.{placed, ended, entries, costAt, zeroPivot, columnOf, no10, no11, no12, no19, dealOrder, gatherOrder, solveOrder, standing, placing, lending, stepOrder}
 use Rattle.solver.specs.Calls.{order}
 
--- the place, the table's last share, the length of the mask tape, the nonzero bytes; and what the checks say
+-- the record, the table's last share, the length of the mask tape, the nonzero bytes; and what the checks say
 pub record Row : Type 0 where
-  pub place : Place
+  pub at : Progress
   pub last : ℕ
   pub mask : ℕ
   pub nonzero : List ℕ
   pub told : Told
 
-abbrev row : Place → ℕ → ℕ → List ℕ → Told → Row
-row place last mask nonzero told = record { place = place; last = last; mask = mask; nonzero = nonzero; told = told }
+abbrev row : Progress → ℕ → ℕ → List ℕ → Told → Row
+row at last mask nonzero told = record { at = at; last = last; mask = mask; nonzero = nonzero; told = told }
+
+-- a record at a place, with its two counters
+abbrev at : Place → ℕ → ℕ → Progress
+at place mask nonzero = recordAt (order 16 2 2) place mask nonzero
 
 abbrev refusal : ℕ → List ℕ → Told
 refusal k d = refused (line k d)
@@ -38,26 +45,37 @@ abbrev table : ℕ → List ℕ
 table last = 4 ∷ 4 ∷ 4 ∷ 5 ∷ 10 ∷ 15 ∷ 3 ∷ 2 ∷ 10 ∷ 10 ∷ 15 ∷ last ∷ []
 
 abbrev says : Row → Told
-says r = stepOrder (order 16 2 2) (r .place) (table (r .last)) 2 (r .mask) (r .nonzero)
+says r = stepOrder (r .at) (table (r .last)) 2 (r .mask) (r .nonzero)
 
 pub rows : List Row
 rows =
-    row (At (Mix 1 2)) 16 6 [] (refusal 6 (2 ∷ 3 ∷ 2 ∷ []))
-    ∷ row (At (Mix 1 2)) 8 6 [] (refusal 7 (7 ∷ []))
-    ∷ row (At (Mix 1 2)) 8 8 [] (refusal 14 (7 ∷ []))
-    ∷ row (At (Mix 1 2)) 8 8 (186 ∷ []) (refusal 14 (7 ∷ []))
-    ∷ row (At (Mix 1 2)) 8 7 (186 ∷ []) (refusal 15 (0 ∷ []))
-    ∷ row (At (Mix 1 2)) 8 7 [] passed
-    ∷ row (At (Scale 1)) 8 9 [] (refusal 14 (8 ∷ []))
-    ∷ row (At (Scale 1)) 8 8 [] (refusal 8 (1 ∷ []))
-    ∷ row (At (Scale 1)) 8 8 (186 ∷ 186 ∷ []) (refusal 15 (1 ∷ []))
-    ∷ row (At (Scale 1)) 8 8 (16 ∷ 186 ∷ []) (refusal 15 (1 ∷ []))
-    ∷ row (At (Scale 1)) 8 8 (16 ∷ []) (refusal 9 (0 ∷ []))
-    ∷ row (At (Scale 1)) 8 8 (186 ∷ []) (refusal 12 (1 ∷ 1 ∷ 0 ∷ []))
+    row (at (At (Mix 1 2)) 0 0) 16 6 [] (refusal 6 (2 ∷ 3 ∷ 2 ∷ []))
+    ∷ row (at (At (Mix 1 2)) 0 0) 8 6 [] (refusal 7 (7 ∷ []))
+    ∷ row (at (At (Mix 1 2)) 0 0) 8 8 [] (refusal 14 (7 ∷ []))
+    ∷ row (at (At (Mix 1 2)) 0 0) 8 8 (186 ∷ []) (refusal 14 (7 ∷ []))
+    ∷ row (at (At (Mix 1 2)) 0 0) 8 7 (186 ∷ []) (refusal 15 (0 ∷ []))
+    ∷ row (at (At (Mix 1 2)) 0 0) 8 7 [] passed
+    ∷ row (at (At (Scale 1)) 12 0) 8 9 [] (refusal 14 (8 ∷ []))
+    ∷ row (at (At (Scale 1)) 12 0) 8 8 [] (refusal 8 (1 ∷ []))
+    ∷ row (at (At (Scale 1)) 12 0) 8 8 (186 ∷ 186 ∷ []) (refusal 15 (1 ∷ []))
+    ∷ row (at (At (Scale 1)) 12 0) 8 8 (16 ∷ 186 ∷ []) (refusal 15 (1 ∷ []))
+    ∷ row (at (At (Scale 1)) 12 0) 8 8 (16 ∷ []) (refusal 9 (0 ∷ []))
+    ∷ row (at (At (Scale 1)) 12 0) 8 8 (186 ∷ []) (refusal 12 (1 ∷ 1 ∷ 0 ∷ []))
+    ∷ row (at (At (Check 1)) 7 1) 16 0 [] (refusal 19 (0 ∷ []))
+    ∷ row (at (At (Check 1)) 7 0) 8 5 [] passed
+    ∷ row (at (At (Scale 1)) 7 0) 8 8 (186 ∷ []) (refusal 19 (0 ∷ []))
+    ∷ row (at (Stopped 1) 12 0) 8 0 [] (refusal 11 (0 ∷ []))
+    ∷ row (at (Stopped 2) 28 1) 8 0 [] (refusal 11 (0 ∷ []))
+    ∷ row (at (Stopped 2) 23 1) 8 0 [] (refusal 19 (0 ∷ []))
+    ∷ row (at Done 35 2) 16 0 [] (refusal 19 (0 ∷ []))
+    ∷ row (at Done 36 2) 16 0 [] (refusal 11 (0 ∷ []))
+    ∷ row (at (At (Mix 2 2)) 0 0) 16 0 [] (refusal 10 (0 ∷ []))
+    ∷ row (at (At (Mix 2 2)) 18446744073709551615 18446744073709551615) 16 0 [] (refusal 10 (0 ∷ []))
+    ∷ row (at (At (Check 1)) 18446744073709551615 18446744073709551615) 8 5 [] (refusal 19 (0 ∷ []))
     ∷ []
 
 pub examples : map says rows ≡ map (λ (r : Row). r .told) rows
-unfolding rows F16 fieldOf sum inversionDraws folds foldDraws cell part tableBytes mixCost scaleCost scaleNonzero inList costOf revealedBy _or_ cellAt outside firstPlace tooLarge zeroDraw no1 no2 no3 no4 no5 no6 no7 no8 no9 no14 no15 numbers placed ended entries costAt zeroPivot columnOf no10 no11 no12 standing placing lending stepOrder
+unfolding rows F16 fieldOf sum inversionDraws folds foldDraws cell part tableBytes mixCost scaleCost scaleNonzero inList costOf revealedBy _or_ cellAt outside firstPlace tooLarge zeroDraw no1 no2 no3 no4 no5 no6 no7 no8 no9 no14 no15 numbers placed ended entries costAt zeroPivot columnOf each column columns openings stepList upTo sumOver beforeStep stepsBefore takenAt counted checkCost clearCost openCost no10 no11 no12 no19 standing placing lending stepOrder
 examples = refl
 
 -- the last byte is 16: of the table that Gather and Solve read, and of Deal's values

@@ -1,6 +1,6 @@
 -- What a pass means: the facts that the work of each call asks for, from the checks of its order.
 -- Assumes nothing.
-use mathlib.Core.Bool.{true, false}
+use mathlib.Core.Bool.{Bool, true, false, not, _&&_, _||_, false≢true}
 use mathlib.Core.List.{List}
 use mathlib.Core.Logic.{_⊎_, ⊎-elim}
 use mathlib.Core.Path.{_≡_, refl, sym, _∙_}
@@ -8,9 +8,9 @@ use Prim.Native.Nat.{ℕ, _+_, _-_, _*_, _≤_}
 use native.Mathlib.Decide.{ℕ-discrete}
 use native.Mathlib.Nat.{mul-le-mul, le-antisymm}
 use native.Mathlib.Omega.{arith}
-use lib.Dec.{eqb}
+use lib.Dec.{eqb, ltb}
 use lib.ListN.{length, take}
-use borrow.Author.Tests.{not-false, eq-eqb, ne-eqb}
+use borrow.Author.Tests.{not-true, not-false, ltb-false, eq-eqb, ne-eqb}
 use Rattle.field.specs.Field.{fieldOf}
 use Rattle.sharing.specs.Rules.{blindedValue}
 use Rattle.sharing.specs.Lists.{Below}
@@ -24,12 +24,16 @@ use Rattle.course.specs.declared.Step.the-variants.{Mix, Check, Scale, Clear, O
 use Rattle.course.specs.declared.Place.{Place}
 use Rattle.course.specs.declared.Place.the-variants.{At, Stopped, Done}
 use Rattle.course.specs.declared.Order.{Order}
+use Rattle.course.specs.declared.Progress.{Progress}
 use Rattle.course.specs.StepList.{Sizes, inList, costOf, maskCost, nonzeroCost, Pivot, revealedBy, fullMask, fullNonzero}
+use Rattle.course.specs.Next.{orderOf, counted}
+use Rattle.course.specs.Code.Closed.{partOf, Stands, agrees}
 use Rattle.course.proofs.Within.{within}
+use Rattle.course.proofs.Closed.{mask-closed, nonzero-closed}
 use Rattle.walk.proofs.Acted.{pivot}
-use Rattle.verdict.specs.Told.{passed, _or_}
-use Rattle.verdict.specs.Refusals.{no4, no5, no6, no7, no8, no9, no14, no15, buffers}
-use Rattle.solver.specs.Refusals.{placed, ended, entries, wholeTable, tableRows, valueRows, dealDraws, costAt, maskAt, nonzeroAt, zeroPivot, no10, no11, no12, sizes, dealOrder, gatherOrder, tapes, solveOrder, standing, wantedOrder, placing, lending, stepOrder}
+use Rattle.verdict.specs.Told.{Told, passed, _or_}
+use Rattle.verdict.specs.Refusals.{outside, no4, no5, no6, no7, no8, no9, no14, no15, buffers}
+use Rattle.solver.specs.Refusals.{placed, ended, entries, wholeTable, tableRows, valueRows, dealDraws, costAt, maskAt, nonzeroAt, zeroPivot, no10, no11, no12, no19, sizes, dealOrder, gatherOrder, tapes, solveOrder, standing, wantedOrder, placing, lending, stepOrder}
 use Rattle.verdict.proofs.Told.{left, right, not-then}
 use Rattle.verdict.proofs.Passes.{numbered, same, enough, six-says, nine-says, Buffers, buffered}
 
@@ -111,31 +115,59 @@ pub record Placed (o : Order) (place : Place) (table solution : ℕ) : Type 0 wh
   pub listed : placed (o .size) place ≡ true
   pub going : ended place ≡ false
 
-pub record Standing (size : ℕ) (place : Place) : Type 0 where
-  pub listed : placed size place ≡ true
-  pub going : ended place ≡ false
+pub record Standing (p : Progress) : Type 0 where
+  pub listed : placed (p .size) (p .place) ≡ true
+  pub matched : counted p ≡ true
+  pub going : ended (p .place) ≡ false
 
--- 10 and 11 passed
-pub standing-says : (size : ℕ) (place : Place) → standing size place ≡ passed → Standing size place
-unfolding standing no10 no11
-standing-says size place e =
+-- 10, 19 and 11 passed
+pub standing-says : (p : Progress) → standing p ≡ passed → Standing p
+unfolding standing no10 no11 no19
+standing-says p e =
+    let a = no10 (p .size) (p .place) in
+    let rest : no19 p or no11 (p .place) ≡ passed = right a _ e in
     record {
-      listed = not-false _ (not-then _ _ (left (no10 size place) (no11 place) e));
-      going = not-then _ _ (right (no10 size place) (no11 place) e);
+      listed = not-false _ (not-then _ _ (left a _ e));
+      matched = not-false _ (not-then _ _ (left (no19 p) (no11 (p .place)) rest));
+      going = not-then _ _ (right (no19 p) (no11 (p .place)) rest);
     }
 
--- Wanted's checks passed
-pub wanting : (o : Order) (place : Place) → wantedOrder o place ≡ passed → Sizes o × Standing (o .size) place
-unfolding wantedOrder
-wanting o place e = (sized o (left (sizes o) _ e), standing-says (o .size) place (right (sizes o) _ e))
+-- a place that passes 10 is one that a record may have
+neither : (a b : Bool) → not (a || b) ≡ true → (a ≡ false) × (b ≡ false)
+neither true b h = absurd (false≢true h)
+neither false true h = absurd (false≢true h)
+neither false false h = (refl, refl)
 
-pub placing-says : (o : Order) (place : Place) (table solution : ℕ) → placing o place table solution ≡ passed → Placed o place table solution
+pub stands : (m : ℕ) (p : Place) → placed m p ≡ true → Stands m p
+unfolding placed outside
+stands m (At s) h = h
+stands m (Stopped j) h = let n = neither (ltb j 1) (ltb m j) h in (ltb-false j 1 (n .0), ltb-false m j (n .1))
+stands m Done h = tt
+
+-- and the code's closed form tells whether its counters match
+pub agrees-so : (p : Progress) → Sizes (orderOf p) → placed (p .size) (p .place) ≡ true
+    → agrees (orderOf p) (partOf (p .size + 1) (p .place)) (p .mask) (p .nonzero) ≡ counted p
+unfolding agrees counted
+agrees-so p z h =
+    let s = stands (p .size) (p .place) h in
+    rw (mask-closed (orderOf p) z (p .place) s, nonzero-closed (orderOf p) (p .place) s)
+
+-- Wanted's checks passed
+pub wanting : (p : Progress) → wantedOrder p ≡ passed → Sizes (orderOf p) × Standing p
+unfolding wantedOrder
+wanting p e = (sized (orderOf p) (left (sizes (orderOf p)) _ e), standing-says p (right (sizes (orderOf p)) _ e))
+
+stood : (p : Progress) (table solution : ℕ) → placing p table solution ≡ passed → Standing p
+unfolding placing
+stood p table solution e = standing-says p (right (no4 (wholeTable (orderOf p)) table or no5 (p .size) solution) (standing p) e)
+
+pub placing-says : (p : Progress) (table solution : ℕ) → placing p table solution ≡ passed → Placed (orderOf p) (p .place) table solution
 unfolding placing no4 no5
-placing-says o place table solution e =
-    let a = no4 (wholeTable o) table in
-    let b = no5 (o .size) solution in
-    let two : a or b ≡ passed = left (a or b) (standing (o .size) place) e in
-    let s = standing-says (o .size) place (right (a or b) (standing (o .size) place) e) in
+placing-says p table solution e =
+    let a = no4 (wholeTable (orderOf p)) table in
+    let b = no5 (p .size) solution in
+    let two : a or b ≡ passed = left (a or b) (standing p) e in
+    let s = stood p table solution e in
     record {
       whole = same 4 _ (left a b two);
       room = same 5 _ (right a b two);
@@ -173,17 +205,28 @@ pub record Going (o : Order) (place : Place) (t : List ℕ) (solution mask : ℕ
   pub elements : Below (fieldOf (o .field) .q) t
   pub lent : Supplied o place mask nonzero
 
-pub going : (o : Order) (place : Place) (t : List ℕ) (solution mask : ℕ) (nonzero : List ℕ) → stepOrder o place t solution mask nonzero ≡ passed → Going o place t solution mask nonzero
+module _ (p : Progress) (t : List ℕ) (solution mask : ℕ) (nonzero : List ℕ) where
+  abbrev after-sizes : Told
+  after-sizes = placing p (length t) solution or (no6 (p .field) (tableRows (orderOf p)) t or (lending (orderOf p) (p .place) mask nonzero or no12 (orderOf p) (p .place) t))
+
+  -- its counters match then
+  pub going-matched : stepOrder p t solution mask nonzero ≡ passed → counted p ≡ true
+  unfolding stepOrder
+  going-matched e = stood p (length t) solution (left (placing p (length t) solution) _ (right (sizes (orderOf p)) after-sizes e)) .matched
+
+pub going : (p : Progress) (t : List ℕ) (solution mask : ℕ) (nonzero : List ℕ) → stepOrder p t solution mask nonzero ≡ passed → Going (orderOf p) (p .place) t solution mask nonzero
 unfolding stepOrder
-going o place t solution mask nonzero e =
-    let a = placing o place (length t) solution in
+going p t solution mask nonzero e =
+    let o = orderOf p in
+    let place = p .place in
+    let a = placing p (length t) solution in
     let b = no6 (o .field) (tableRows o) t in
     let c = lending o place mask nonzero in
     let late : a or (b or (c or no12 o place t)) ≡ passed = right (sizes o) _ e in
     let last : b or (c or no12 o place t) ≡ passed = right a _ late in
     record {
       sizes = sized o (left (sizes o) _ e);
-      at = placing-says o place (length t) solution (left a _ late);
+      at = placing-says p (length t) solution (left a _ late);
       elements = six-says (o .field) (tableRows o) t (left b _ last);
       lent = lending-says o place mask nonzero (left c _ (right b _ last));
     }

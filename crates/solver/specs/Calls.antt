@@ -12,7 +12,7 @@ use Rattle.course.specs.declared.Progress.{Progress}
 use Rattle.course.specs.declared.Counts.{Counts}
 use Rattle.course.specs.declared.Draws.{Draws}
 use Rattle.course.specs.StepList.{draws, Revealed, None, Flag, Pivot, Unknown, revealedBy, stepList, sums}
-use Rattle.course.specs.Next.{nextOf, startOf}
+use Rattle.course.specs.Next.{orderOf, nextOf, startOf}
 use Rattle.walk.specs.declared.Ending.{Ending}
 use Rattle.walk.specs.declared.Ending.the-variants as E
 use Rattle.walk.specs.Act.{Held, held, opened, acted}
@@ -129,9 +129,6 @@ pub record Lent : Type 0 where
 abbrev pub lent : Progress → Held → Lent
 lent p h = record { progress = p; held = h }
 
-abbrev pub orderOf : Progress → Order
-orderOf p = order (p .field) (p .shares) (p .size)
-
 -- the step of the record's place, on all of the lent parts; a call that comes here has a place of the list
 unfoldable pub stepDoes : Progress → Place → Held → List ℕ → List ℕ → Outcome Stride Lent
 stepDoes p (P.At s) h mask nonzero =
@@ -142,10 +139,10 @@ stepDoes p P.Done h mask nonzero = after (gives moved) (lent p h)
 
 unfoldable pub stepCall : Progress → Held → List ℕ → List ℕ → Outcome Stride Lent
 stepCall p h mask nonzero =
-    call (stepOrder (orderOf p) (p .place) (h .table) (length (h .solution)) (length mask) nonzero) (lent p h)
+    call (stepOrder p (h .table) (length (h .solution)) (length mask) nonzero) (lent p h)
     (stepDoes p (p .place) h mask nonzero)
 
--- ---- Wanted: the mask draws and the nonzero draws of the record's place, which Step asks for (7, 14, 8, 15); or refusal 1, 2, 3, 10, 11
+-- ---- Wanted: the mask draws and the nonzero draws of the record's place, which Step asks for (7, 14, 8, 15); or refusal 1, 2, 3, 10, 19, 11
 
 abbrev pub wantSays : Wanting → Says Draws
 wantSays (Want.Wanted mask nonzero) = gives (draws mask nonzero)
@@ -153,5 +150,5 @@ wantSays (Want.Refused r) = refuses (paper r)
 
 unfoldable pub wantedCall : Progress → Outcome Draws Nothing
 wantedCall p =
-    call (wantedOrder (orderOf p) (p .place)) tt
+    call (wantedOrder p) tt
     (after (gives (costAt (orderOf p) (p .place))) tt)

@@ -1,4 +1,4 @@
--- 01's refusals 10 to 12, which are about a progress record, and the order of each call. The others stand in crate verdict.
+-- 01's refusals 10 to 12 and R-5's 19, which are about a progress record, and the order of each call. The others stand in crate verdict.
 -- Assumes nothing.
 use mathlib.Core.Bool.{Bool, true, false, not}
 use mathlib.Core.List.{List, [], _∷_}
@@ -12,7 +12,9 @@ use Rattle.course.specs.declared.Draws.{Draws}
 use Rattle.course.specs.declared.Place.{Place}
 use Rattle.course.specs.declared.Place.the-variants.{At, Stopped, Done}
 use Rattle.course.specs.declared.Order.{Order}
+use Rattle.course.specs.declared.Progress.{Progress}
 use Rattle.course.specs.StepList.{inList, draws, costOf, Revealed, None, Flag, Pivot, Unknown, revealedBy, fullMask, fullNonzero}
+use Rattle.course.specs.Next.{orderOf, counted}
 use Rattle.verdict.specs.declared.Rows.{Rows}
 use Rattle.verdict.specs.declared.Rows.the-variants.{Shared, Values}
 use Rattle.verdict.specs.Told.{Told, refuse, _or_}
@@ -87,6 +89,10 @@ columnOf (Unknown j) = j
 unfoldable pub no10 : ℕ → Place → Told
 no10 size place = refuse 10 (not (placed size place)) (0 ∷ [])
 
+-- the counters don't match the place: 0
+unfoldable pub no19 : Progress → Told
+no19 p = refuse 19 (not (counted p)) (0 ∷ [])
+
 -- record already stopped or done: 0
 unfoldable pub no11 : Place → Told
 no11 place = refuse 11 (ended place) (0 ∷ [])
@@ -128,19 +134,21 @@ solveOrder o t solution mask nonzero =
     or (buffers (o .field) (tableRows o) (wholeTable o) t (o .size) solution
     or tapes o mask nonzero)
 
--- 10, 11
-unfoldable pub standing : ℕ → Place → Told
-standing size place = no10 size place or no11 place
+-- 10, 19, 11: only a place of the list has a sum that the counters can match
+unfoldable pub standing : Progress → Told
+standing p =
+    no10 (p .size) (p .place)
+    or (no19 p or no11 (p .place))
 
--- Wanted: 1, 2, 3, 10, 11
-unfoldable pub wantedOrder : Order → Place → Told
-wantedOrder o place =
-    sizes o
-    or standing (o .size) place
+-- Wanted: 1, 2, 3, 10, 19, 11
+unfoldable pub wantedOrder : Progress → Told
+wantedOrder p =
+    sizes (orderOf p)
+    or standing p
 
--- 4, 5, 10, 11
-unfoldable pub placing : Order → Place → ℕ → ℕ → Told
-placing o place table solution = no4 (wholeTable o) table or no5 (o .size) solution or standing (o .size) place
+-- 4, 5, 10, 19, 11
+unfoldable pub placing : Progress → ℕ → ℕ → Told
+placing p table solution = no4 (wholeTable (orderOf p)) table or no5 (p .size) solution or standing p
 
 -- 7, 14, 8, 15, 9, over the draws of the place
 unfoldable pub lending : Order → Place → ℕ → List ℕ → Told
@@ -151,11 +159,12 @@ lending o place mask nonzero =
     or no15 (nonzeroAt o place) (length nonzero)
     or no9 (o .field) nonzero
 
--- Step: 1 to 5, 10, 11, 6, 7, 14, 8, 15, 9, 12
-unfoldable pub stepOrder : Order → Place → List ℕ → ℕ → ℕ → List ℕ → Told
-stepOrder o place t solution mask nonzero =
+-- Step: 1 to 5, 10, 19, 11, 6, 7, 14, 8, 15, 9, 12
+unfoldable pub stepOrder : Progress → List ℕ → ℕ → ℕ → List ℕ → Told
+stepOrder p t solution mask nonzero =
+    let o = orderOf p in
     sizes o
-    or (placing o place (length t) solution
+    or (placing p (length t) solution
     or (no6 (o .field) (tableRows o) t
-    or (lending o place mask nonzero
-    or no12 o place t)))
+    or (lending o (p .place) mask nonzero
+    or no12 o (p .place) t)))

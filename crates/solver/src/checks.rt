@@ -1,18 +1,21 @@
-// The checks of the public calls: the order of each, with refusals 10 to 12, which are about a progress record. Nothing lent is written.
+// The checks of the public calls: the order of each, with refusals 10 to 12 and 19, which are about a progress record. Nothing lent is written.
 ghost use mathlib.Core.Path.{_≡_};
-ghost use mathlib.Core.Bool.{true};
+ghost use mathlib.Core.Bool.{true, not, _&&_};
 ghost use Prim.Native.Nat.{_≤_};
 ghost use lib.ListN.{length, take};
 ghost use Rattle.sharing.specs.Bounds.{mostRows, mostEntries};
 ghost use Rattle.course.specs.StepList.{Sizes};
+ghost use Rattle.course.specs.Next.{orderOf, counted};
 ghost use Rattle.verdict.specs.Told.{passed, _or_};
 ghost use Rattle.verdict.specs.Refusals.{no7, no9, buffers};
 ghost use Rattle.solver.specs.Refusals.{placed, ended, entries, wholeTable, tableRows, valueRows, dealDraws, costAt, maskAt, nonzeroAt, no12, sizes, dealOrder, gatherOrder, tapes, solveOrder, standing, wantedOrder, placing, lending, stepOrder};
+ghost use Rattle.solver.specs.Code.Fault.{faultOf};
 ghost use Rattle.verdict.specs.Code.Verdicts.{told};
 ghost use Rattle.verdict.specs.Cells.{NonEmpty};
 use course::Draws;
 use course::Order;
 use course::Place;
+use course::Progress;
 use course::Step;
 use verdict::Cell;
 use verdict::Refusal;
@@ -187,31 +190,79 @@ fn is_ended(p: Place) -> bool
     }
 }
 
-// 10, 11
-fn standing(m: u64, p: Place) -> Verdict
-    ensures { λ r. ⌜ told r ≡ standing m p ⌝ }
+// The first of 10, 19 and 11 that applies.
+fn fault(listed: bool, matched: bool) -> Refusal
+    ensures { λ r. ⌜ r ≡ faultOf listed matched ⌝ }
 {
-    let v = verdict::refuse_if(!is_placed(m, p), Refusal::OffList);
-    verdict::or_else(v, verdict::refuse_if(is_ended(p), Refusal::Ended))
+    if !listed {
+        return Refusal::OffList;
+    }
+    if matched {
+        Refusal::Ended
+    } else {
+        Refusal::Counters
+    }
 }
 
-// 1, 2, 3, 10, 11
-pub fn wanted(o: Order, p: Place) -> Verdict
-    ensures { λ r. ⌜ told r ≡ wantedOrder o p ⌝ }
+// Whether none of 10, 19 and 11 applies.
+fn is_sound(matched: bool, p: Place) -> bool
+    ensures { λ r. ⌜ r ≡ matched && not (ended p) ⌝ }
 {
+    matched && !is_ended(p)
+}
+
+// 10, 19, 11, of a record that is at a place of the list, and whose counters match it, or not. All three at once: so a step of the list is told by
+// one test.
+fn standing(p: Progress, listed: bool, matched: bool) -> Verdict
+    requires { ⌜ (listed ≡ placed (p .size) (p .place)) × (matched ≡ listed && counted p) ⌝ }
+    ensures { λ r. ⌜ told r ≡ standing p ⌝ }
+{
+    let place = p.place;
+    verdict::refuse_if(!is_sound(matched, place), fault(listed, matched))
+}
+
+// 1, 2, 3, 10, 19, 11
+pub fn wanted(p: Progress) -> Verdict
+    ensures { λ r. ⌜ told r ≡ wantedOrder p ⌝ }
+{
+    let o = Order {
+        field: p.field,
+        shares: p.shares,
+        size: p.size,
+    };
     let v = sizes(o);
-    verdict::or_else(v, standing(o.size, p))
+    let Verdict::Pass = v else {
+        return v;
+    };
+    let place = p.place;
+    let listed = is_placed(o.size, place);
+    let matched = listed
+        && course::agrees(
+            o,
+            course::part_of(o.size as usize, place),
+            p.mask,
+            p.nonzero,
+        );
+    standing(p, listed, matched)
 }
 
-// 4, 5, 10, 11
-fn placing(o: Order, p: Place, table: usize, solution: usize) -> Verdict
-    requires { ⌜ Sizes o ⌝ }
-    ensures { λ r. ⌜ told r ≡ placing o p table solution ⌝ }
+// 4, 5, 10, 19, 11
+fn placing(p: Progress, table: usize, solution: usize) -> Verdict
+    requires { ⌜ Sizes (orderOf p) ⌝ }
+    ensures { λ r. ⌜ told r ≡ placing p table solution ⌝ }
 {
+    let o = Order {
+        field: p.field,
+        shares: p.shares,
+        size: p.size,
+    };
     let whole = whole_table(o);
     let m = o.size as usize;
     let v = verdict::or_else(verdict::no4(whole, table), verdict::no5(m, solution));
-    verdict::or_else(v, standing(o.size, p))
+    let place = p.place;
+    let listed = is_placed(o.size, place);
+    let matched = listed && course::agrees(o, course::part_of(m, place), p.mask, p.nonzero);
+    verdict::or_else(v, standing(p, listed, matched))
 }
 
 // The draws of a place.
@@ -281,22 +332,21 @@ fn no12(o: Order, p: Place, table: &[u8], mask: &[u8], nonzero: &[u8]) -> Verdic
     )
 }
 
-// 1 to 5, 10, 11, 6, 7, 14, 8, 15, 9, 12
-pub fn step(
-    o: Order,
-    p: Place,
-    table: &[u8],
-    solution: usize,
-    mask: &[u8],
-    nonzero: &[u8],
-) -> Verdict
-    ensures { λ r. ⌜ told r ≡ stepOrder o p (now (table .entry)) solution (length (now (mask .entry))) (now (nonzero .entry)) ⌝ }
+// 1 to 5, 10, 19, 11, 6, 7, 14, 8, 15, 9, 12
+pub fn step(p: Progress, table: &[u8], solution: usize, mask: &[u8], nonzero: &[u8]) -> Verdict
+    ensures { λ r. ⌜ told r ≡ stepOrder p (now (table .entry)) solution (length (now (mask .entry))) (now (nonzero .entry)) ⌝ }
 {
+    let o = Order {
+        field: p.field,
+        shares: p.shares,
+        size: p.size,
+    };
+    let place = p.place;
     let v = sizes(o);
     let Verdict::Pass = v else {
         return v;
     };
-    let w = placing(o, p, table.len(), solution);
+    let w = placing(p, table.len(), solution);
     let Verdict::Pass = w else {
         return w;
     };
@@ -304,9 +354,9 @@ pub fn step(
     let Verdict::Pass = x else {
         return x;
     };
-    let y = lending(o, p, mask.len(), nonzero);
+    let y = lending(o, place, mask.len(), nonzero);
     let Verdict::Pass = y else {
         return y;
     };
-    no12(o, p, table, mask, nonzero)
+    no12(o, place, table, mask, nonzero)
 }

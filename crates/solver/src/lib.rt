@@ -88,7 +88,7 @@ pub fn counts(field: u64, shares: u64, size: u64) -> Counting
     }
 }
 
-// The draws that the step at the record's place must be lent, exactly: mask draws and nonzero draws. Or refusal 1, 2, 3, 10, 11.
+// The draws that the step at the record's place must be lent, exactly: mask draws and nonzero draws. Or refusal 1, 2, 3, 10, 19, 11.
 pub fn wanted(p: Progress) -> Wanting
     ensures { λ r. ⌜ after (wantSays r) tt ≡ wantedCall p ⌝ }
 {
@@ -98,7 +98,7 @@ pub fn wanted(p: Progress) -> Wanting
         size: p.size,
     };
     let place = p.place;
-    match checks::wanted(o, place) {
+    match checks::wanted(p) {
         Verdict::Refuse(r) => Wanting::Refused(r),
         Verdict::Pass => {
             let d = checks::cost_at(o, place);
@@ -221,7 +221,7 @@ pub fn step(
         size: p.size,
     };
     let place = p.place;
-    match checks::step(o, place, &table[..], solution.len(), mask, nonzero) {
+    match checks::step(p, &table[..], solution.len(), mask, nonzero) {
         Verdict::Refuse(r) => Stepped {
             answer: Stepping::Refused(r),
             next: p,

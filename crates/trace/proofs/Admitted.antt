@@ -9,13 +9,13 @@ use lib.ListN.{length, take}
 use Rattle.field.specs.Field.{fieldOf}
 use Rattle.sharing.specs.Rules.{drawAt}
 use Rattle.sharing.specs.Lists.{Below}
-use Rattle.course.specs.declared.Step.{Step}
-use Rattle.course.specs.declared.Place.the-variants.{At}
 use Rattle.course.specs.declared.Order.{Order}
-use Rattle.course.specs.StepList.{Sizes, inList, maskCost, nonzeroCost, revealedBy, fullMask, fullNonzero}
+use Rattle.course.specs.declared.Progress.{Progress}
+use Rattle.course.specs.StepList.{Sizes, fullMask, fullNonzero}
+use Rattle.course.specs.Next.{orderOf, counted}
 use Rattle.verdict.specs.Told.{passed}
 use Rattle.verdict.specs.Refusals.{no4, no5, no7, no8, no14, no15}
-use Rattle.solver.specs.Refusals.{placed, ended, entries, wholeTable, tableRows, costAt, zeroPivot, no10, no11, no12, sizes, gatherOrder, tapes, solveOrder, standing, placing, lending, stepOrder}
+use Rattle.solver.specs.Refusals.{placed, ended, entries, wholeTable, tableRows, maskAt, nonzeroAt, revealedAt, zeroPivot, no10, no11, no12, no19, sizes, gatherOrder, tapes, solveOrder, standing, placing, lending, stepOrder}
 use Rattle.verdict.proofs.Passes.{unmet, numbers-pass, right-length, long-enough, six-passes, nine-passes, buffers-pass, _and_}
 
 pub sizes-pass : (o : Order) → Sizes o → sizes o ≡ passed
@@ -37,16 +37,18 @@ module _ (o : Order) (z : Sizes o) (t : List ℕ) (whole : length t ≡ wholeTab
       and (buffers-pass (o .field) (wholeTable o) t (o .size) solution (tableRows o) whole a elements
       and (long-enough 7 _ b and long-enough 8 _ c and nine-passes (o .field) (take (fullNonzero o) nonzero) d))
 
-  pub step-passes : (s : Step) (solution mask : ℕ) (nonzero : List ℕ) → inList (o .size) s ≡ true → zeroPivot o (revealedBy s) t ≡ false
-      → solution ≡ o .size → mask ≡ maskCost o s → length nonzero ≡ nonzeroCost o s
-      → ((k : ℕ) → k < length nonzero → drawAt (fieldOf (o .field)) nonzero k ≡ 0 → ⊥)
-      → stepOrder o (At s) t solution mask nonzero ≡ passed
-  unfolding stepOrder placing standing lending no4 no5 no7 no8 no14 no15 no10 no11 no12 placed ended costAt
-  step-passes s solution mask nonzero listed pivot a b c d =
-      sizes-pass o z
-      and (right-length 4 _ whole and right-length 5 _ a and (unmet 10 _ (ap not listed) and refl)
-      and (six-passes (o .field) (tableRows o) t elements
-      and (long-enough 7 _ (le-of-eq (sym b)) and long-enough 14 _ (le-of-eq b)
-      and long-enough 8 _ (le-of-eq (sym c)) and long-enough 15 _ (le-of-eq c)
-      and nine-passes (o .field) nonzero d
-      and unmet 12 _ pivot)))
+pub step-passes : (p : Progress) → Sizes (orderOf p) → (t : List ℕ) → length t ≡ wholeTable (orderOf p) → Below (fieldOf (p .field) .q) t
+    → (solution mask : ℕ) (nonzero : List ℕ) → placed (p .size) (p .place) ≡ true → counted p ≡ true → ended (p .place) ≡ false
+    → zeroPivot (orderOf p) (revealedAt (p .place)) t ≡ false
+    → solution ≡ p .size → mask ≡ maskAt (orderOf p) (p .place) → length nonzero ≡ nonzeroAt (orderOf p) (p .place)
+    → ((k : ℕ) → k < length nonzero → drawAt (fieldOf (p .field)) nonzero k ≡ 0 → ⊥)
+    → stepOrder p t solution mask nonzero ≡ passed
+unfolding stepOrder placing standing lending no4 no5 no7 no8 no14 no15 no10 no11 no12 no19
+step-passes p z t whole elements solution mask nonzero listed matched runs pivot a b c d =
+    sizes-pass (orderOf p) z
+    and (right-length 4 _ whole and right-length 5 _ a and (unmet 10 _ (ap not listed) and (unmet 19 _ (ap not matched) and unmet 11 _ runs))
+    and (six-passes (p .field) (tableRows (orderOf p)) t elements
+    and (long-enough 7 _ (le-of-eq (sym b)) and long-enough 14 _ (le-of-eq b)
+    and long-enough 8 _ (le-of-eq (sym c)) and long-enough 15 _ (le-of-eq c)
+    and nine-passes (p .field) nonzero d
+    and unmet 12 _ pivot)))

@@ -1,5 +1,6 @@
 -- What one step call leaves a host with: all as it was, where it is refused; else the work of the record's step, and the next record.
 -- Assumes nothing.
+use mathlib.Core.Bool.{true}
 use mathlib.Core.List.{List, append-nil}
 use mathlib.Core.Logic.{_⊎_, inl, inr}
 use mathlib.Core.Path.{_≡_, refl}
@@ -12,6 +13,7 @@ use Rattle.course.specs.declared.Place.{Place}
 use Rattle.course.specs.declared.Place.the-variants.{At, Stopped, Done}
 use Rattle.course.specs.declared.Order.{Order}
 use Rattle.course.specs.StepList.{revealedBy}
+use Rattle.course.specs.Next.{counted}
 use Rattle.walk.specs.Act.{Held, opened, written, acted}
 use Rattle.verdict.specs.Told.{Told, passed, refused, Line}
 use Rattle.solver.specs.Refusals.{placed, ended, costAt, stepOrder}
@@ -19,7 +21,7 @@ use Rattle.verdict.specs.Calls.{refuses, call}
 use Rattle.solver.specs.Calls.{stepDoes, stepCall}
 use Rattle.trace.specs.Trace.{Beside, Host, called, lends, hostAfter, orderIn, Refused, Accepted}
 use Rattle.verdict.proofs.Passes.{nine-says}
-use Rattle.solver.proofs.Ready.{Going, going}
+use Rattle.solver.proofs.Ready.{Going, going, going-matched}
 
 -- a step writes the solution as 01 says
 pub acted-written : (o : Order) (s : Step) (ds nz : List ℕ) (h : Held) → acted o s ds nz h .solution ≡ written (revealedBy s) (opened o s ds h) (h .solution)
@@ -30,7 +32,7 @@ module _ (h : Host) (c : Beside) where
   -- what the call's checks say
   abbrev pub verdict : Told
   verdict =
-      stepOrder (orderIn h) (h .progress .place) (h .table) (length (c .solution)) (length (c .mask)) (c .nonzero)
+      stepOrder (h .progress) (h .table) (length (c .solution)) (length (c .mask)) (c .nonzero)
 
   refused-says : (l : Line) → verdict ≡ refused l → called h c .says ≡ refuses l
   unfolding called stepCall call
@@ -47,13 +49,14 @@ module _ (h : Host) (c : Beside) where
       }
 
   accepted-at : (p : Place) → h .progress .place ≡ p → Going (orderIn h) p (h .table) (length (c .solution)) (length (c .mask)) (c .nonzero)
-      → verdict ≡ passed → (s : Step) × Accepted h c s
+      → counted (h .progress) ≡ true → verdict ≡ passed → (s : Step) × Accepted h c s
   unfolding called stepCall call stepDoes hostAfter placed ended costAt
-  accepted-at (At s) e w v = (
+  accepted-at (At s) e w k v = (
     s,
     record {
       place = e;
       listed = w .at .listed;
+      matched = k;
       table = w .at .whole;
       elements = w .elements;
       solution = w .at .room;
@@ -64,11 +67,11 @@ module _ (h : Host) (c : Beside) where
       after = rw (v, e, acted-written (orderIn h) s (c .mask) (c .nonzero) (lends h c));
     },
   )
-  accepted-at (Stopped j) e w v =
+  accepted-at (Stopped j) e w k v =
       let g = w .at .going in
       let z : _≡_ {A = ℕ} 0 1 = cc in
       absurd (let n : ⊥ = omega arith in n)
-  accepted-at Done e w v =
+  accepted-at Done e w k v =
       let g = w .at .going in
       let z : _≡_ {A = ℕ} 0 1 = cc in
       absurd (let n : ⊥ = omega arith in n)
@@ -76,7 +79,8 @@ module _ (h : Host) (c : Beside) where
   pub accepted-call : verdict ≡ passed → (s : Step) × Accepted h c s
   accepted-call e =
       accepted-at (h .progress .place) refl
-      (going (orderIn h) (h .progress .place) (h .table) (length (c .solution)) (length (c .mask)) (c .nonzero) e) e
+      (going (h .progress) (h .table) (length (c .solution)) (length (c .mask)) (c .nonzero) e)
+      (going-matched (h .progress) (h .table) (length (c .solution)) (length (c .mask)) (c .nonzero) e) e
 
   by-verdict : (v : Told) → verdict ≡ v → Refused h c ⊎ ((s : Step) × Accepted h c s)
   by-verdict passed e = inr (accepted-call e)

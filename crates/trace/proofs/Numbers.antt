@@ -11,12 +11,14 @@ use lib.ListN.{length, take, getD}
 use Rattle.sharing.specs.Bounds.{mostRows}
 use Rattle.course.specs.declared.Place.{Place}
 use Rattle.course.specs.declared.Order.{Order}
+use Rattle.course.specs.declared.Progress.{Progress}
 use Rattle.course.specs.StepList.{fullMask, fullNonzero}
+use Rattle.course.specs.Next.{orderOf, counted}
 use Rattle.verdict.specs.declared.Rows.{Rows}
 use Rattle.verdict.specs.declared.Rows.the-variants.{Values}
 use Rattle.verdict.specs.Told.{Told, passed, refused, Line, refuse, _or_}
 use Rattle.verdict.specs.Refusals.{differs, outside, anyPlace, tooLarge, zeroDraw, no1, no2, no3, no4, no5, no6, no7, no8, no9, no14, no15, numbers, buffers}
-use Rattle.solver.specs.Refusals.{wholeTable, tableRows, valueRows, placed, ended, entries, dealDraws, maskAt, nonzeroAt, revealedAt, zeroPivot, no10, no11, no12, sizes, dealOrder, gatherOrder, tapes, solveOrder, standing, wantedOrder, placing, lending, stepOrder}
+use Rattle.solver.specs.Refusals.{wholeTable, tableRows, valueRows, placed, ended, entries, dealDraws, maskAt, nonzeroAt, revealedAt, zeroPivot, no10, no11, no12, no19, sizes, dealOrder, gatherOrder, tapes, solveOrder, standing, wantedOrder, placing, lending, stepOrder}
 use Rattle.solver.specs.Calls.{order}
 use Rattle.plain.specs.Calls.{plainOrder}
 use Rattle.exchange.specs.Record.{rows, tableLength, recordLength, lengthAt, endAt, ends, no16, unsuited, fieldAt, stretch, framed, systemIn, holding}
@@ -70,6 +72,10 @@ eight wanted long = numbered 8 (ltb long wanted) _
 nine : (f : ℕ) (draws : List ℕ) → Numbered 9 (no9 f draws)
 unfolding no9
 nine f draws = numbered 9 (anyPlace (zeroDraw f) draws) _
+
+nineteen : (p : Progress) → Numbered 19 (no19 p)
+unfolding no19
+nineteen p = numbered 19 (not (counted p)) _
 
 ten : (m : ℕ) (p : Place) → Numbered 10 (no10 m p)
 unfolding no10
@@ -144,9 +150,11 @@ solve-gives o t solution mask nonzero =
     then (buffers-in _ (o .field) (tableRows o) (wholeTable o) t (o .size) solution refl refl refl
     then (in-list _ refl (seven (fullMask o) mask) then in-list _ refl (eight (fullNonzero o) (length nonzero)) then in-list _ refl (nine (o .field) (take (fullNonzero o) nonzero))))
 
-pub wanted-gives : (o : Order) (p : Place) → Gives (Among (1 ∷ 2 ∷ 3 ∷ 10 ∷ 11 ∷ [])) (wantedOrder o p)
+pub wanted-gives : (p : Progress) → Gives (Among (1 ∷ 2 ∷ 3 ∷ 10 ∷ 19 ∷ 11 ∷ [])) (wantedOrder p)
 unfolding wantedOrder standing oneOf
-wanted-gives o p = sizes-in _ o refl refl refl then (in-list _ refl (ten (o .size) p) then in-list _ refl (eleven p))
+wanted-gives p =
+    sizes-in _ (orderOf p) refl refl refl
+    then (in-list _ refl (ten (p .size) (p .place)) then (in-list _ refl (nineteen p) then in-list _ refl (eleven (p .place))))
 
 pub plain-gives : (f m : ℕ) (values : List ℕ) (long : ℕ) → Gives (Among (1 ∷ 3 ∷ 4 ∷ 5 ∷ 6 ∷ [])) (plainOrder f m values long)
 unfolding plainOrder oneOf
@@ -201,8 +209,14 @@ each-at P [] e k l g = absurd (no-refusal g)
 each-at P (v ∷ vs) e zero l g = ⊎-elim (λ (h : v ≡ passed). absurd (no-refusal (sym h ∙ g))) (λ (p : P 0). p) (e .0)
 each-at P (v ∷ vs) e (suc k) l g = each-at (λ (j : ℕ). P (suc j)) vs (e .1) k l g
 
-module _ (o : Order) (p : Place) (t : List ℕ) (solution mask : ℕ) (nonzero : List ℕ) where
-  -- its checks, each at its number; 13 is desk's
+module _ (r : Progress) (t : List ℕ) (solution mask : ℕ) (nonzero : List ℕ) where
+  abbrev o : Order
+  o = orderOf r
+
+  abbrev p : Place
+  p = r .place
+
+  -- its checks, each at its number; 13 is desk's, and 16 to 18 are those of Read
   abbrev pub checks : List Told
   checks =
       passed
@@ -221,6 +235,10 @@ module _ (o : Order) (p : Place) (t : List ℕ) (solution mask : ℕ) (nonzero :
       ∷ passed
       ∷ no14 (maskAt o p) mask
       ∷ no15 (nonzeroAt o p) (length nonzero)
+      ∷ passed
+      ∷ passed
+      ∷ passed
+      ∷ no19 r
       ∷ []
 
   -- what it is refused by is what the check of that number says
@@ -230,11 +248,11 @@ module _ (o : Order) (p : Place) (t : List ℕ) (solution mask : ℕ) (nonzero :
   here : {k : ℕ} {v : Told} → getD checks k passed ≡ v → Numbered k v → Gives AtNumber v
   here s n = record { only = λ l e. ap (λ (i : ℕ). getD checks i passed) (n .number l e) ∙ s ∙ e }
 
-  pub by-number : Gives AtNumber (stepOrder o p t solution mask nonzero)
+  pub by-number : Gives AtNumber (stepOrder r t solution mask nonzero)
   unfolding stepOrder numbers placing standing lending
   by-number =
       here refl (one (o .field)) then here refl (two (o .shares)) then here refl (three (o .size))
-      then (here refl (four (wholeTable o) (length t)) then here refl (five (o .size) solution) then (here refl (ten (o .size) p) then here refl (eleven p))
+      then (here refl (four (wholeTable o) (length t)) then here refl (five (o .size) solution) then (here refl (ten (o .size) p) then (here refl (nineteen r) then here refl (eleven p)))
       then (here refl (six (o .field) (tableRows o) t)
       then (here refl (seven (maskAt o p) mask)
       then here refl (fourteen (maskAt o p) mask)
@@ -244,9 +262,9 @@ module _ (o : Order) (p : Place) (t : List ℕ) (solution mask : ℕ) (nonzero :
       then here refl (twelve o p t))))
 
   -- a number whose check passes is not given, wherever it stands in the order
-  pub not-given : (k : ℕ) → getD checks k passed ≡ passed → (l : Line) → stepOrder o p t solution mask nonzero ≡ refused l → l .number ≡ k → ⊥
+  pub not-given : (k : ℕ) → getD checks k passed ≡ passed → (l : Line) → stepOrder r t solution mask nonzero ≡ refused l → l .number ≡ k → ⊥
   not-given k e l g same = no-refusal (sym e ∙ ap (λ (n : ℕ). getD checks n passed) (sym same) ∙ by-number .only l g)
 
   -- and what holds of each number whose check may refuse holds of the one that is given
-  pub given : (P : ℕ → Type 0) → Each P checks → (l : Line) → stepOrder o p t solution mask nonzero ≡ refused l → P (l .number)
+  pub given : (P : ℕ → Type 0) → Each P checks → (l : Line) → stepOrder r t solution mask nonzero ≡ refused l → P (l .number)
   given P each l g = each-at P checks each (l .number) l (by-number .only l g)

@@ -28,7 +28,7 @@ use Rattle.meaning.specs.Meaning.{IsSolved, IsStopped, Means}
 use Rattle.meaning.specs.Claims.{NoZero, Given}
 use Rattle.meaning.proofs.Meant.{meant}
 use Rattle.verdict.specs.Told.{passed}
-use Rattle.solver.specs.Refusals.{wholeTable, solveOrder, costAt, maskAt, nonzeroAt}
+use Rattle.solver.specs.Refusals.{wholeTable, solveOrder, ended, costAt, maskAt, nonzeroAt}
 use Rattle.verdict.specs.Calls.{gives}
 use Rattle.solver.specs.Calls.{solveDoes, solveCall}
 use Rattle.verdict.proofs.Passes.{nine-says}
@@ -37,7 +37,7 @@ use Rattle.trace.specs.Trace.{Beside, Host, begin, hostAfter, drive, Ref
 use Rattle.trace.proofs.Admitted.{step-passes}
 use Rattle.trace.proofs.Call.{verdict, accepted-call, each-call}
 use Rattle.trace.proofs.Reached.{reached, order-kept}
-use Rattle.trace.proofs.Trace.{last-call, sole-at, agrees, agrees-call}
+use Rattle.trace.proofs.Trace.{last-call, placed-at, sole-at, agrees, agrees-call}
 
 module _ (o : Order) (sized : Sizes o) (t y : List ℕ) where
   abbrev first : Host
@@ -49,12 +49,16 @@ module _ (o : Order) (sized : Sizes o) (t y : List ℕ) where
     d = drive first cs
 
     fit-passes : (c : Beside) (s : Step) → d .progress .place ≡ At s → Fit o s c → verdict d c ≡ passed
+    unfolding ended costAt
     fit-passes c s e f =
         let g = reached o sized t y cs in
         let a : Admitted o (d .table) = g .admitted admitted in
-        rw (order-kept o sized t y cs, e)
-        (step-passes o sized (d .table) (a .whole) (a .elements) s (length (c .solution)) (length (c .mask)) (c .nonzero)
-        (along-in o (rw e at (g .along))) (rw e at (g .firm)) (f .solution) (f .mask) (f .nonzero) (f .drawn))
+        let k = order-kept o sized t y cs in
+        let field : d .progress .field ≡ o .field = ap (λ (r : Order). r .field) k in
+        let size : d .progress .size ≡ o .size = ap (λ (r : Order). r .size) k in
+        step-passes (d .progress) (rw k sized) (d .table) (rw k (a .whole)) (rw field (a .elements)) (length (c .solution)) (length (c .mask)) (c .nonzero)
+        (rw size (placed-at o t y d g (d .progress .place) refl)) (g .matched) (rw e) (rw k (g .firm))
+        (rw size (f .solution)) (rw (k, e) (f .mask)) (rw (k, e) (f .nonzero)) (rw field (f .drawn))
 
     pub accepted : (c : Beside) (s : Step) → d .progress .place ≡ At s → Fit o s c → Accepted d c s
     accepted c s e f =

@@ -2,10 +2,11 @@
 -- draws comes by the same steps to the same table. P is the premise that each call so far lent the host's own solution: then the solve
 -- comes to the same solution too.
 -- Assumes nothing.
+use mathlib.Core.Bool.{true}
 use mathlib.Core.List.{List, [], _∷_, _++_, append-assoc}
 use mathlib.Core.Logic.{⊎-elim}
 use mathlib.Core.Path.{_≡_, refl, sym, ap, ap₂, _∙_}
-use Prim.Native.Nat.{ℕ, _+_, _-_, _≤_}
+use Prim.Native.Nat.{ℕ, _+_, _-_, _≤_, _<_}
 use native.Mathlib.Nat.{le-refl, add-zero}
 use native.Mathlib.Decide.{decLt}
 use native.Mathlib.Omega.{arith}
@@ -17,16 +18,18 @@ use Rattle.sharing.proofs.Draws.{same-drop, same-longer}
 use Rattle.course.specs.declared.Step.{Step}
 use Rattle.course.specs.declared.Place.the-variants.{Done}
 use Rattle.course.specs.declared.Order.{Order}
+use Rattle.course.specs.declared.Progress.{Progress}
 use Rattle.course.specs.declared.Counts.{Counts}
 use Rattle.course.specs.StepList.{Sizes, maskCost, nonzeroCost, revealedBy, stepList, sumOver, sums}
-use Rattle.course.specs.Next.{firstOf, following, nextOf, startOf, Chain}
+use Rattle.course.specs.Next.{firstOf, following, orderOf, movedOn, startOf, counted, Chain}
 use Rattle.course.proofs.Within.{within}
 use Rattle.course.proofs.Chain.{unique, chain}
-use Rattle.course.proofs.Sums.{sum-append}
-use Rattle.course.proofs.Along.{resume, calm-resume, first-calm, resume-after, next-place, Along, start-along, turn-along}
+use Rattle.course.proofs.Sums.{sum-append, mask-small, nonzero-small}
+use Rattle.course.proofs.Along.{resume, calm-resume, first-calm, resume-after, room-along, Along, start-along, turn-along}
+use Rattle.course.proofs.Moving.{moves-so, moves-on, start-counted, moved-counted}
 use Rattle.walk.specs.Act.{held, written}
 use Rattle.walk.specs.Walk.{Tally, running, courseOf, spent, walk, fresh}
-use Rattle.trace.specs.Trace.{Beside, Host, begin, lends, hostAfter, drive, orderIn, openedIn, stepped, NoneZero, Refused, Accepted, countsIn, Begins, Admitted, Own}
+use Rattle.trace.specs.Trace.{Beside, Host, begin, lends, hostAfter, drive, orderIn, openedIn, stepped, NoneZero, Refused, Accepted, countsIn, Recorded, Begins, Admitted, Own}
 use Rattle.trace.proofs.Call.{acted-written, each-call}
 use Rattle.trace.proofs.Own.{opened-own, table-own}
 use Rattle.walk.proofs.Acted.{acted-sized, acted-places, acted-below}
@@ -61,6 +64,9 @@ pub record Reached (P : Type 0) (o : Order) (t x : List ℕ) (h : Host) : Type 0
   pub steps : List Step
   pub whole : (rest : List Step) → Chain (o .size) (resume (h .progress .place)) rest Done → stepList (o .size) ≡ steps ++ rest
   pub counts : countsIn h ≡ sums o steps
+  -- the record's counters are the draws lent, and match its place
+  pub recorded : Recorded h
+  pub matched : counted (h .progress) ≡ true
   pub firm : Firm o (h .table) (h .progress .place)
   -- what a call asks of the table and the solution goes on holding
   pub admitted : Admitted o t → Admitted o (h .table)
@@ -80,6 +86,8 @@ start o some t x =
       steps = [];
       whole = λ rest e. unique m (firstOf m 1) (stepList m) rest (chain m some) (rw (calm-resume (firstOf m 1) c) at e);
       counts = refl;
+      recorded = record { mask = refl; nonzero = refl };
+      matched = start-counted o;
       firm = firm-first o t 1;
       admitted = λ a. a;
       places = λ l. l;
@@ -109,8 +117,20 @@ module _ (P : Type 0) (t x : List ℕ) (h : Host) (c : Beside) (s : Step) (sized
   abbrev h′ : Host
   h′ = stepped h c s
 
+  -- the whole list does not take so many draws that the counters have no room
+  moved : h′ .progress ≡ movedOn (h .progress) s u
+  moved =
+      let p = h .progress in
+      let r = room-along own (rw (a .place) at (g .along)) in
+      let i : p .mask + maskCost own s < 18446744073709551616 = omega (arith, r .1, g .recorded .mask, mask-small own sized) in
+      let j : p .nonzero + nonzeroCost own s < 18446744073709551616 = omega (arith, r .2, g .recorded .nonzero, nonzero-small own sized) in
+      moves-on p s u (a .place) (moves-so p s sized (a .listed) i j)
+
   next : h′ .progress .place ≡ following (own .size) s u
-  next = next-place (h .progress) s u refl (a .place) (a .listed)
+  next = ap (λ (p : Progress). p .place) moved
+
+  pub order-moved : orderIn h′ ≡ own
+  order-moved = ap orderOf moved
 
   mask-more : length (h .mask ++ c .mask) ≡ length (h .mask) + maskCost own s
   mask-more = length-append (h .mask) (c .mask) ∙ ap (λ (k : ℕ). length (h .mask) + k) (a .mask)
@@ -159,6 +179,12 @@ module _ (P : Type 0) (t x : List ℕ) (h : Host) (c : Beside) (s : Step) (sized
         steps = g .steps ++ (s ∷ []);
         whole = whole-more;
         counts = rw (mask-more, nonzero-more) (sums-more own (g .steps) s (countsIn h) (g .counts));
+        recorded =
+            record {
+              mask = ap (λ (p : Progress). p .mask) moved ∙ ap (λ (k : ℕ). k + maskCost own s) (g .recorded .mask) ∙ sym mask-more;
+              nonzero = ap (λ (p : Progress). p .nonzero) moved ∙ ap (λ (k : ℕ). k + nonzeroCost own s) (g .recorded .nonzero) ∙ sym nonzero-more;
+            };
+        matched = rw moved (moved-counted (h .progress) s u (a .place) (a .listed) (g .matched));
         firm = rw next (firm-after own (omega (arith, sized .two)) (c .mask) (c .nonzero) (lends h c) (a .table) s (a .listed));
         admitted = λ b.
             record {
@@ -180,6 +206,8 @@ weaker P Q f g =
       steps = g .steps;
       whole = g .whole;
       counts = g .counts;
+      recorded = g .recorded;
+      matched = g .matched;
       firm = g .firm;
       admitted = g .admitted;
       places = g .places;
@@ -194,14 +222,15 @@ record Run (P : Type 0) (o : Order) (t x : List ℕ) (h : Host) : Type 0 where
 
 module _ (o : Order) (sized : Sizes o) (t x : List ℕ) where
   step : (P : Type 0) (h : Host) (c : Beside) → Run P o t x h → Run (P × (c .solution ≡ h .solution)) o t x (hostAfter h c)
-  unfolding nextOf
   step P h c g =
       ⊎-elim
       (λ (r : Refused h c).
       rw (r .after) (record { order = g .order; now = weaker P (P × (c .solution ≡ h .solution)) (λ p. p .0) (g .now) }))
       (λ (r : (s : Step) × Accepted h c s).
       rw (r .1 .after)
-      (record { order = g .order; now = more P t x h c (r .0) (rw (← (g .order)) at sized) (r .1) (g .now) }))
+      (let z = rw (← (g .order)) at sized in
+      let e = order-moved P t x h c (r .0) z (r .1) (g .now) in
+      record { order = e ∙ g .order; now = rw e (more P t x h c (r .0) z (r .1) (g .now)) }))
       (each-call h c)
 
   steps : (P : Type 0) (h : Host) (cs : List Beside) → Run P o t x h → Run (P × Own h cs) o t x (drive h cs)

@@ -13,15 +13,16 @@ use Rattle.course.specs.declared.Place.{Place}
 use Rattle.course.specs.declared.Place.the-variants.{At, Stopped, Done}
 use Rattle.course.specs.declared.Order.{Order}
 use Rattle.course.specs.StepList.{Sizes, stepList}
+use Rattle.course.specs.Next.{counted as matches}
 use Rattle.course.proofs.Along.{Along, first, none, along-in, stop-in, counted-done, counted-stop}
 use Rattle.walk.specs.Act.{held}
 use Rattle.walk.specs.Walk.{Course, running, courseOf, walk, fresh, conclude, solved}
 use Rattle.verdict.specs.Told.{Told, passed}
 use Rattle.verdict.specs.Refusals.{outside}
-use Rattle.solver.specs.Refusals.{placed, no10, no12, solveOrder}
+use Rattle.solver.specs.Refusals.{placed, no10, no12, no19, solveOrder}
 use Rattle.verdict.specs.Calls.{call}
 use Rattle.solver.specs.Calls.{solveDoes, solveCall}
-use Rattle.trace.specs.Trace.{Beside, Host, begin, hostAfter, drive, orderIn, Refused, Accepted, countsIn, Counted, Begins, Agrees, Only, possible, Never}
+use Rattle.trace.specs.Trace.{Beside, Host, begin, hostAfter, drive, orderIn, Refused, Accepted, countsIn, Counted, Recorded, Begins, Agrees, Only, possible, Never}
 use Rattle.verdict.proofs.Passes.{unmet, one-passes, two-passes, three-passes}
 use Rattle.trace.specs.Numbers.{oneOf, Among}
 use Rattle.trace.proofs.Numbers.{checks, Each, _also_, not-given, given}
@@ -31,18 +32,18 @@ use Rattle.trace.proofs.Reached.{tallyOf, Reached, reached, order-kept}
 
 -- the checks of a call, each at its number
 abbrev pub checksOf : Host → Beside → List Told
-checksOf h c = checks (orderIn h) (h .progress .place) (h .table) (length (c .solution)) (length (c .mask)) (c .nonzero)
+checksOf h c = checks (h .progress) (h .table) (length (c .solution)) (length (c .mask)) (c .nonzero)
 
 -- a number whose check passes is not given
 pub never : (h : Host) (c : Beside) (k : ℕ) → getD (checksOf h c) k passed ≡ passed → Never k h c
 never h c k e l g =
-    not-given (orderIn h) (h .progress .place) (h .table) (length (c .solution)) (length (c .mask)) (c .nonzero) k e l (refusal h c l g)
+    not-given (h .progress) (h .table) (length (c .solution)) (length (c .mask)) (c .nonzero) k e l (refusal h c l g)
 
 -- what is given is one of some numbers, where the check of each other number passes
 only : (h : Host) (c : Beside) (ns : List ℕ) → Each (λ k. oneOf k ns ≡ true) (checksOf h c) → Only ns h c
 unfolding Among
 only h c ns each l g =
-    given (orderIn h) (h .progress .place) (h .table) (length (c .solution)) (length (c .mask)) (c .nonzero) (λ k. oneOf k ns ≡ true) each l
+    given (h .progress) (h .table) (length (c .solution)) (length (c .mask)) (c .nonzero) (λ k. oneOf k ns ≡ true) each l
     (refusal h c l g)
 
 -- a run is its calls one by one
@@ -63,7 +64,7 @@ module _ {P : Type 0} (o : Order) (t y : List ℕ) (h : Host) (g : Reached P o t
       (w .0, w .1, counted-stop o a)
   counted-at Done e = counted-done o (rw e at (g .along))
 
-  placed-at : (p : Place) → h .progress .place ≡ p → placed (o .size) p ≡ true
+  pub placed-at : (p : Place) → h .progress .place ≡ p → placed (o .size) p ≡ true
   unfolding placed outside
   placed-at (At s) e = along-in o (rw e at (g .along))
   placed-at (Stopped j) e =
@@ -115,6 +116,10 @@ module _ (o : Order) (sized : Sizes o) (t y : List ℕ) (cs : List Beside) where
   pub counted : Counted o (countsIn d) (d .progress .place)
   counted = counted-at o t y d (reached o sized t y cs) (d .progress .place) refl
 
+  -- and so are the record's own counters, which match its place
+  pub recorded : Recorded d × (matches (d .progress) ≡ true)
+  recorded = let g = reached o sized t y cs in (g .recorded, g .matched)
+
   module _ (x ms zs : List ℕ) (dm : Begins o (d .mask) ms) (dz : Begins o (d .nonzero) zs) where
     -- 3. The whole solve of the same first table, on tapes that begin with the same draws, comes to the same end
     pub agrees : Agrees d (solveDoes (solved o ms zs (held t x))) (d .progress .place)
@@ -129,7 +134,7 @@ module _ (o : Order) (sized : Sizes o) (t y : List ℕ) (cs : List Beside) where
 
   -- 4. A refused call has one of those numbers, whatever it lends. Each number from 0 on: its check passes, or it is one of them
   pub refused-by : (c : Beside) → Only possible d c
-  unfolding Each oneOf no10 no12
+  unfolding Each oneOf no10 no12 no19
   refused-by c =
       let g = reached o sized t y cs in
       only d c possible
@@ -150,12 +155,20 @@ module _ (o : Order) (sized : Sizes o) (t y : List ℕ) (cs : List Beside) where
       also inl refl
       also inr refl
       also inr refl
+      also inl refl
+      also inl refl
+      also inl refl
+      also inl (unmet 19 _ (ap not (g .matched)))
       also tt))
 
-  -- so refusals 10 and 12 are not met
+  -- so refusals 10, 12 and 19 are not met
   pub never-off-list : (c : Beside) → Never 10 d c
   unfolding oneOf Among
   never-off-list c l g e = let z = rw e at (refused-by c l g) in false≢true z
+
+  pub never-mismatched : (c : Beside) → Never 19 d c
+  unfolding oneOf Among
+  never-mismatched c l g e = let z = rw e at (refused-by c l g) in false≢true z
 
   pub never-zero-pivot : (c : Beside) → Never 12 d c
   unfolding oneOf Among

@@ -16,7 +16,7 @@ use Rattle.verdict.proofs.Passes.{long-enough}
 use Rattle.trace.proofs.Trace.{never}
 
 module _ (h : Host) (c : Beside) (d : Draws) where
-  told : (w : Told) → wantedOrder (orderIn h) (h .progress .place) ≡ w → wantedCall (h .progress) .says ≡ gives d
+  told : (w : Told) → wantedOrder (h .progress) ≡ w → wantedCall (h .progress) .says ≡ gives d
       → d ≡ costAt (orderIn h) (h .progress .place)
   unfolding wantedCall call
   told passed e g =
@@ -29,7 +29,7 @@ module _ (h : Host) (c : Beside) (d : Draws) where
 
   module _ (says : wantedCall (h .progress) .says ≡ gives d) where
     wants : d ≡ costAt (orderIn h) (h .progress .place)
-    wants = told (wantedOrder (orderIn h) (h .progress .place)) refl says
+    wants = told (wantedOrder (h .progress)) refl says
 
     pub wanted-mask : length (c .mask) ≡ d .mask → Never 7 h c × Never 14 h c
     unfolding no7 no14

@@ -17,14 +17,14 @@ use Rattle.course.specs.declared.Order.{Order}
 use Rattle.course.specs.declared.Progress.{Progress}
 use Rattle.course.specs.declared.Counts.{Counts}
 use Rattle.course.specs.StepList.{inList, maskCost, nonzeroCost, revealedBy, stepList, upTo, sums}
-use Rattle.course.specs.Next.{nextOf, startOf}
+use Rattle.course.specs.Next.{orderOf, nextOf, startOf, counted}
 use Rattle.walk.specs.declared.Ending.{Ending}
 use Rattle.walk.specs.declared.Ending.the-variants as E
 use Rattle.walk.specs.Act.{Held, held, opened, written, acted}
 use Rattle.verdict.specs.Told.{Line}
 use Rattle.solver.specs.Refusals.{wholeTable}
 use Rattle.verdict.specs.Calls.{Says, refuses, gives, Outcome}
-use Rattle.solver.specs.Calls.{Stride, tells, Lent, lent, orderOf, stepCall}
+use Rattle.solver.specs.Calls.{Stride, tells, Lent, lent, stepCall}
 use Rattle.trace.specs.Numbers.{Among}
 
 -- what a call is lent beside the record and the table
@@ -109,8 +109,8 @@ stepped h c s =
 abbrev pub NoneZero : Order → List ℕ → Type 0
 NoneZero o ds = (k : ℕ) → k < length ds → drawAt (fieldOf (o .field)) ds k ≡ 0 → ⊥
 
--- 1. A call that was refused has changed nothing. One that was accepted did the step of the record's place, on a whole table of which every
--- byte is an element, on exactly the step's draws, and on nonzero draws that are not 0
+-- 1. A call that was refused has changed nothing. One that was accepted did the step of the record's place, whose draws its counters had, on a
+-- whole table of which every byte is an element, on exactly the step's draws, and on nonzero draws that are not 0
 pub record Refused (h : Host) (c : Beside) : Type 0 where
   pub line : Line
   pub says : called h c .says ≡ refuses line
@@ -120,6 +120,7 @@ pub record Refused (h : Host) (c : Beside) : Type 0 where
 pub record Accepted (h : Host) (c : Beside) (s : Step) : Type 0 where
   pub place : h .progress .place ≡ At s
   pub listed : inList (h .progress .size) s ≡ true
+  pub matched : counted (h .progress) ≡ true
   pub table : length (h .table) ≡ wholeTable (orderIn h)
   pub elements : Below (fieldOf (orderIn h .field) .q) (h .table)
   pub solution : length (c .solution) ≡ orderIn h .size
@@ -139,6 +140,11 @@ Counted o c (At s) =
     (done : List Step) × (left : List Step) × (stepList (o .size) ≡ done ++ (s ∷ left)) × (c ≡ sums o done)
 Counted o c (Stopped j) = (1 ≤ j) × (j ≤ o .size) × (c ≡ sums o (upTo (o .size) j))
 Counted o c Done = c ≡ sums o (stepList (o .size))
+
+-- and the record's own counters are the draws that were lent
+pub record Recorded (h : Host) : Type 0 where
+  pub mask : h .progress .mask ≡ length (h .mask)
+  pub nonzero : h .progress .nonzero ≡ length (h .nonzero)
 
 -- a tape that begins with the draws ds: the same draws, and not the same bytes
 abbrev pub Begins : Order → List ℕ → List ℕ → Type 0

@@ -1,4 +1,4 @@
-// What the checks of the calls have in common: 01's table of refusals, with R-2's details and R-3's numbers, the checks 1 to 9, 14 and 15, and how
+// What the checks of the calls have in common: 01's table of refusals, with R-2's details and the numbers of R-3 and R-5, the checks 1 to 9, 14 and 15, and how
 // checks follow each other. Stands on field. Nothing lent is written, and bytes are looked at only where the length is right.
 ghost use mathlib.Core.Path.{_≡_};
 ghost use mathlib.Core.List.{[], _∷_};
@@ -53,6 +53,8 @@ pub enum Refusal {
     CutField(usize),
     // 18: the first byte after
     PastEnd(usize),
+    // 19
+    Counters,
 }
 
 // A refusal as numbers: 01's number, and its detail; what the detail has not is 0.
@@ -108,6 +110,7 @@ impl Refusal {
             Refusal::BadTag(at) => with_detail(16, at as u64),
             Refusal::CutField(at) => with_detail(17, at as u64),
             Refusal::PastEnd(at) => with_detail(18, at as u64),
+            Refusal::Counters => with_detail(19, 0),
         }
     }
 }

@@ -86,18 +86,15 @@ pub fn solve(o: Order, table: &mut [u8], solution: &mut [u8], mask: &[u8], nonze
 {
     let mut p = Progress::start(o);
     let mut steps: usize = 0;
-    let mut at: usize = 0;
-    let mut at2: usize = 0;
     loop {
         let q = p.place;
+        let at = p.mask as usize;
+        let at2 = p.nonzero as usize;
         match q {
             Place::At(s) => {
-                let d = course::cost(o, s);
                 let x = act(o, s, table, solution, &mask[at..], &nonzero[at2..]);
                 p = p.next(x);
                 steps += 1;
-                at += d.mask;
-                at2 += d.nonzero;
             }
             Place::Stopped(j) => {
                 sharing::wipe(solution);

@@ -37,7 +37,7 @@ act-requires : tie.Need-act-requires
 act-requires c κs =
     let found = c .before .before .before in
     step-ready _ (found .place .given .1)
-    (going _ _ _ _ _ _ (passes _ _ (found .before .before .before .before .step .ensures) (found .before .before .enum-told .given .1)))
+    (going _ _ _ _ _ (passes _ _ (found .before .before .before .before .step .ensures) (found .before .before .enum-told .given .1)))
 
 answer-requires : tie.Need-answer-requires
 answer-requires c κs = search needs

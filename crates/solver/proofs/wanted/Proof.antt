@@ -22,7 +22,7 @@ enum-told c = search needs
 
 cost-at-requires : tie.Need-cost-at-requires
 cost-at-requires c κs =
-    let w = wanting _ _ (passes _ _ (c .before .before .wanted .ensures) (c .enum-told .given .1)) in
+    let w = wanting _ (passes _ _ (c .before .before .wanted .ensures) (c .enum-told .given .1)) in
     (w .0, w .1 .listed)
 
 returns : tie.Need-returns

@@ -1,6 +1,7 @@
 -- `walk::solve` meets its contract. The loop's invariant: what was counted and the steps left make up the list, and the walk of the steps left comes to the
 -- end of the whole walk. The measure is how many steps are left.
 -- Assumes nothing.
+use mathlib.Core.Bool.{true}
 use mathlib.Core.List.{List}
 use mathlib.Core.Path.{_≡_, refl, sym, ap, _∙_}
 use Prim.Native.Nat.{ℕ, _≤_, _<_, _+_, _-_}
@@ -10,10 +11,11 @@ use Rattle.sharing.proofs.Loops.{rest}
 use Rattle.course.specs.declared.Order.{Order}
 use Rattle.course.specs.declared.Progress.{Progress}
 use Rattle.course.specs.declared.Place.the-variants.{At}
-use Rattle.course.specs.StepList.{stepList, maskCost, nonzeroCost, fullMask, fullNonzero}
-use Rattle.course.specs.Next.{startOf, nextOf}
+use Rattle.course.specs.StepList.{stepList, inList, costOf, maskCost, nonzeroCost, fullMask, fullNonzero}
+use Rattle.course.specs.Next.{following, orderOf, movedOn, startOf}
 use Rattle.course.proofs.Sums.{list-small, mask-small, nonzero-small}
-use Rattle.course.proofs.Along.{along-in, room-along, next-place}
+use Rattle.course.proofs.Along.{along-in, room-along}
+use Rattle.course.proofs.Moving.{moves-so, moves-on}
 use Rattle.walk.specs.Act.{Held, held}
 use Rattle.walk.specs.Walk.{Tally, Course, running, walk, fresh, conclude, solved}
 use Rattle.walk.proofs.Acted.{Lengths, acted-length}
@@ -27,24 +29,24 @@ abbrev end : Order → List ℕ → List ℕ → Held → Course
 end o ms zs h = walk o ms zs (stepList (o .size)) (running (fresh h))
 
 record Turning (o : Order) (ms zs : List ℕ) (h : Held) (p : Progress) (t : Tally) : Type 0 where
-  size : p .size ≡ o .size
+  order : orderOf p ≡ o
   lengths : Lengths o (t .left)
   going : Going o ms zs (end o ms zs h) (p .place) t
 
 abbrev Inv-loop : tie.InvT-loop
-Inv-loop o table₀ solution₀ mask nonzero p₀ steps₀ at₀ at2₀ table solution p steps at at2 = Turning o mask nonzero (held table₀ solution₀) p (tally (held table solution) steps at at2)
+Inv-loop o table₀ solution₀ mask nonzero p₀ steps₀ table solution p steps = Turning o mask nonzero (held table₀ solution₀) p (tally (held table solution) steps (p .mask) (p .nonzero))
 
 abbrev μ-loop : tie.MeasureT-loop
-μ-loop o table₀ solution₀ mask nonzero p₀ steps₀ at₀ at2₀ table solution p steps at at2 = length (stepList (o .size)) - steps
+μ-loop o table₀ solution₀ mask nonzero p₀ steps₀ table solution p steps = length (stepList (o .size)) - steps
 
 -- what is known at a step
 at-step : (c : tie.After-q Inv-loop μ-loop) → let a = c .before .before .before .before .before .before .before .before .args in let l = c .before .before .loop in
-    Going (a .o) (a .mask .now) (a .nonzero .now) (end (a .o) (a .mask .now) (a .nonzero .now) (held (a .table .now) (a .solution .now))) (At (c .q .given .0 .0)) (tally (held (l .table) (l .solution)) (l .steps) (l .at) (l .at2))
+    Going (a .o) (a .mask .now) (a .nonzero .now) (end (a .o) (a .mask .now) (a .nonzero .now) (held (a .table .now) (a .solution .now))) (At (c .q .given .0 .0)) (tally (held (l .table) (l .solution)) (l .steps) (l .p .mask) (l .p .nonzero))
 at-step c = rw (c .q .given .1) at (c .before .before .loop .inv .going)
 
 -- there are steps left, and draws for this one
 room : (c : tie.After-q Inv-loop μ-loop) → let o = c .before .before .before .before .before .before .before .before .args .o in let l = c .before .before .loop in let s = c .q .given .0 .0 in
-    (l .steps < length (stepList (o .size))) × (l .at + maskCost o s ≤ fullMask o) × (l .at2 + nonzeroCost o s ≤ fullNonzero o)
+    (l .steps < length (stepList (o .size))) × (l .p .mask + maskCost o s ≤ fullMask o) × (l .p .nonzero + nonzeroCost o s ≤ fullNonzero o)
 room c = room-along _ (at-step c .along)
 
 start-requires : tie.Need-start-requires Inv-loop μ-loop
@@ -57,7 +59,7 @@ loop-holds c =
     let a = s .args in
     rw (c .start .ensures)
     (record {
-      size = refl;
+      order = refl;
       lengths = record { table = s .pre .1 .0 .0; solution = s .pre .1 .0 .1 };
       going = begin (a .o) (a .mask .now) (a .nonzero .now) (held (a .table .now) (a .solution .now)) (s .pre .0 .some);
     })
@@ -65,30 +67,27 @@ loop-holds c =
 enum-known-q : tie.Need-enum-known-q Inv-loop μ-loop
 enum-known-q c = search needs
 
-cost-requires : tie.Need-cost-requires Inv-loop μ-loop
-cost-requires c κs = (c .before .before .before .before .before .before .before .before .before .pre .0, along-in _ (at-step (c .before) .along))
-
 sub-act : tie.Need-sub-act Inv-loop μ-loop
-sub-act c = let q = c .before .before .before .before in omega (arith, room q .1, q .before .before .before .before .before .before .before .before .pre .1 .1 .0)
+sub-act c = let q = c .before .before .before in omega (arith, room q .1, q .before .before .before .before .before .before .before .before .pre .1 .1 .0)
 
 part-act-start : tie.Need-part-act-start Inv-loop μ-loop
-part-act-start c = let q = c .before .before .before .before in omega (arith, room q .1, q .before .before .before .before .before .before .before .before .pre .1 .1 .0)
+part-act-start c = let q = c .before .before .before in omega (arith, room q .1, q .before .before .before .before .before .before .before .before .pre .1 .1 .0)
 
 part-act-end : tie.Need-part-act-end Inv-loop μ-loop
 part-act-end c = search needs
 
 sub-act-2 : tie.Need-sub-act-2 Inv-loop μ-loop
-sub-act-2 c = let q = c .before .before .before .before .before in omega (arith, room q .2, q .before .before .before .before .before .before .before .before .pre .1 .1 .1)
+sub-act-2 c = let q = c .before .before .before .before in omega (arith, room q .2, q .before .before .before .before .before .before .before .before .pre .1 .1 .1)
 
 part-act-start-2 : tie.Need-part-act-start-2 Inv-loop μ-loop
-part-act-start-2 c = let q = c .before .before .before .before .before in omega (arith, room q .2, q .before .before .before .before .before .before .before .before .pre .1 .1 .1)
+part-act-start-2 c = let q = c .before .before .before .before in omega (arith, room q .2, q .before .before .before .before .before .before .before .before .pre .1 .1 .1)
 
 part-act-end-2 : tie.Need-part-act-end-2 Inv-loop μ-loop
 part-act-end-2 c = search needs
 
 act-requires : tie.Need-act-requires Inv-loop μ-loop
 act-requires c κs =
-    let q = c .before .before .before .before .before .before in
+    let q = c .before .before .before .before .before in
     let p = q .before .before .before .before .before .before .before .before .pre in
     let v = q .before .before .loop .inv in
     (p .0, (along-in _ (at-step q .along), ((v .lengths .table, v .lengths .solution), (rw (rest, length-drop) (omega (arith, room q .1, p .1 .1 .0)), rw (rest, length-drop) (omega (arith, room q .2, p .1 .1 .1))))))
@@ -98,47 +97,47 @@ next-requires c κs = search needs
 
 add-steps : tie.Need-add-steps Inv-loop μ-loop
 add-steps c =
-    let q = c .before .before .before .before .before .before .before .before .before .before .before .before in
+    let q = c .before .before .before .before .before .before .before .before .before .before .before in
     let s = q .before .before .before .before .before .before .before .before in
     omega (arith, room q .0, list-small (s .args .o .size) (s .pre .0 .most))
 
-add-at : tie.Need-add-at Inv-loop μ-loop
-add-at c =
-    let t = c .before .before .before .before .before .before .before .before .before .before .before in
-    let q = t .before .before in
-    let s = q .before .before .before .before .before .before .before .before in
-    rw (t .cost .ensures) (omega (arith, room q .1, mask-small (s .args .o) (s .pre .0)))
-
-add-at2 : tie.Need-add-at2 Inv-loop μ-loop
-add-at2 c =
-    let t = c .before .before .before .before .before .before .before .before .before .before .before .before in
-    let q = t .before .before in
-    let s = q .before .before .before .before .before .before .before .before in
-    rw (t .cost .ensures) (omega (arith, room q .2, nonzero-small (s .args .o) (s .pre .0)))
-
 loop-less : tie.Need-loop-less Inv-loop μ-loop
-loop-less c = omega (arith, room (c .before .before .before .before .before .before .before .before .before .before .before .before .before .before) .0)
+loop-less c = omega (arith, room (c .before .before .before .before .before .before .before .before .before .before .before) .0)
+
+-- the record is moved on: it has room, as the whole list does not take so many draws
+moved-on : (c : tie.After-next Inv-loop μ-loop) → let q = c .before .before .before .before .before .before .before .before .before .before .before in
+    c .next .result ≡ movedOn (q .before .before .loop .p) (q .q .given .0 .0) (c .before .before .before .before .before .act .result)
+moved-on c =
+    let q = c .before .before .before .before .before .before .before .before .before .before .before in
+    let s = q .before .before .before .before .before .before .before .before in
+    let o = s .args .o in
+    let p = q .before .before .loop .p in
+    let t = q .q .given .0 .0 in
+    let e = q .before .before .loop .inv .order in
+    let h = room q in
+    let a : p .mask + maskCost (orderOf p) t < 18446744073709551616 = rw e (omega (arith, h .1, mask-small o (s .pre .0))) in
+    let b : p .nonzero + nonzeroCost (orderOf p) t < 18446744073709551616 = rw e (omega (arith, h .2, nonzero-small o (s .pre .0))) in
+    let i : inList (p .size) t ≡ true = ap (λ (r : Order). inList (r .size) t) e ∙ along-in _ (at-step q .along) in
+    c .next .ensures ∙ moves-on p t (c .before .before .before .before .before .act .result) (q .q .given .1) (moves-so p t (rw e (s .pre .0)) i a b)
 
 loop-again : tie.Need-loop-again Inv-loop μ-loop
-unfolding nextOf
 loop-again c =
-    let n = c .before .before in
-    let t = n .before .before .before .before .before .before .before .before .before .before in
-    let q = t .before .before in
+    let q = c .before .before .before .before .before .before .before .before .before .before .before in
     let a = q .before .before .before .before .before .before .before .before .args in
     let l = q .before .before .loop in
     let s = q .q .given .0 .0 in
-    let x = n .before .before .before .before .before .act in
+    let x = c .before .before .before .before .before .act in
     let g = at-step q in
-    let left = rw (rest (l .at) (a .mask .now), rest (l .at2) (a .nonzero .now)) at (x .ensures .1) in
-    record {
-      size = ap (λ (r : Progress). r .size) (n .next .ensures) ∙ l .inv .size;
+    let left = rw (rest (l .p .mask) (a .mask .now), rest (l .p .nonzero) (a .nonzero .now)) at (x .ensures .1) in
+    rw (moved-on c)
+    (record {
+      order = l .inv .order;
       lengths = rw left (acted-length (a .o) s (along-in _ (g .along)) _ _ _ (l .inv .lengths));
       going =
-          moved (a .o) (a .mask .now) (a .nonzero .now) (l .inv .going) (q .q .given .1) (rw rest at (x .ensures .0))
-          (ap (λ (r : Progress). r .place) (n .next .ensures) ∙ next-place (l .p) s (x .result) (l .inv .size) (q .q .given .1) (along-in _ (g .along)))
-          left (t .cost .ensures);
-    }
+          moved (a .o) (a .mask .now) (a .nonzero .now) {r = costOf (orderOf (l .p)) s} (l .inv .going) (q .q .given .1) (rw rest at (x .ensures .0))
+          (ap (λ (r : Order). following (r .size) s (x .result)) (l .inv .order))
+          left (ap (λ (r : Order). costOf r s) (l .inv .order));
+    })
 
 enum-known-q-2 : tie.Need-enum-known-q-2 Inv-loop μ-loop
 enum-known-q-2 c = search needs
@@ -183,7 +182,6 @@ solve-spec =
     start-requires
     loop-holds
     enum-known-q
-    cost-requires
     sub-act
     part-act-start
     part-act-end
@@ -193,8 +191,6 @@ solve-spec =
     act-requires
     next-requires
     add-steps
-    add-at
-    add-at2
     loop-less
     loop-again
     enum-known-q-2

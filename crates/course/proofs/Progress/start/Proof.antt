@@ -1,4 +1,4 @@
--- `course::Progress::start` meets its contract: the first place is that of column 1.
+-- `course::Progress::start` meets its contract.
 -- Assumes nothing.
 use Rattle.course.specs.Next.{startOf}
 use borrow.Author.Needs.{needs}

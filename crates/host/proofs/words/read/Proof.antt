@@ -1,4 +1,4 @@
--- `words::read` meets its contract: six reads within six words.
+-- `words::read` meets its contract: eight reads within eight words.
 -- Assumes nothing.
 use Rattle.host.specs.Words.{progressOf}
 use borrow.Author.Needs.{needs}
@@ -26,9 +26,15 @@ shared-slice-read-place-of-3 c = search needs
 place-of-requires : tie.Need-place-of-requires
 place-of-requires c κs = search needs
 
+shared-slice-read-t16 : tie.Need-shared-slice-read-t16
+shared-slice-read-t16 c = search needs
+
+shared-slice-read-t18 : tie.Need-shared-slice-read-t18
+shared-slice-read-t18 c = search needs
+
 returns : tie.Need-returns
 unfolding progressOf
-returns c = rw (c .place-of .ensures)
+returns c = rw (c .before .before .place-of .ensures)
 
 pub read-spec : {M : Type 1} → statement M
 read-spec =
@@ -41,4 +47,6 @@ read-spec =
     shared-slice-read-place-of-2
     shared-slice-read-place-of-3
     place-of-requires
+    shared-slice-read-t16
+    shared-slice-read-t18
     returns)

@@ -1,10 +1,10 @@
--- `words::write` meets its contract: six words, written one by one.
+-- `words::write` meets its contract: eight words, written one by one.
 -- Assumes nothing.
 use Rattle.host.specs.Words.{wordsOf}
 use mathlib.Core.Path.{_∙_}
 use native.Mathlib.Omega.{arith}
 use lib.ListN.{length-set}
-use Rattle.host.proofs.Record.{six-set}
+use Rattle.host.proofs.Record.{eight-set}
 use borrow.Author.Needs.{needs}
 use Rattle.host.proofs.words.write.Statement.{statement}
 use Rattle.host.proofs.words.write.Tie as tie
@@ -30,12 +30,18 @@ slice-write-record-words-5 c = simp length-set (omega arith)
 slice-write-record-words-6 : tie.Need-slice-write-record-words-6
 slice-write-record-words-6 c = simp length-set (omega arith)
 
+slice-write-record-words-7 : tie.Need-slice-write-record-words-7
+slice-write-record-words-7 c = simp length-set (omega arith)
+
+slice-write-record-words-8 : tie.Need-slice-write-record-words-8
+slice-write-record-words-8 c = simp length-set (omega arith)
+
 same-length : tie.Need-same-length
 same-length c = search needs
 
 returns : tie.Need-returns
 unfolding wordsOf
-returns c = six-set (c .before .before .args .record-words .now) _ _ _ _ _ _ (c .before .before .pre) ∙ rw (c .spot-of .ensures)
+returns c = eight-set (c .before .before .args .record-words .now) _ _ _ _ _ _ _ _ (c .before .before .pre) ∙ rw (c .spot-of .ensures)
 
 pub write-spec : {M : Type 1} → statement M
 write-spec =
@@ -48,5 +54,7 @@ write-spec =
     slice-write-record-words-4
     slice-write-record-words-5
     slice-write-record-words-6
+    slice-write-record-words-7
+    slice-write-record-words-8
     same-length
     returns)

@@ -3,6 +3,7 @@
 use mathlib.Core.Path.{_≡_, _∙_}
 use native.Mathlib.Omega.{arith}
 use borrow.Author.Needs.{needs}
+use Rattle.course.specs.Next.{orderOf}
 use Rattle.verdict.specs.Refusals.{no6}
 use Rattle.verdict.specs.Code.Verdicts.{told}
 use Rattle.solver.specs.Refusals.{tableRows, stepOrder}
@@ -13,7 +14,7 @@ use Rattle.solver.proofs.checks.step.Tie as tie
 
 -- what 6 tells
 six : (l : tie.After-no6) → let x = l .before .before .before .before .before .before .before .before .before .before .before .args in
-    told (l .no6 .result) ≡ no6 (x .o .field) (tableRows (x .o)) (x .table .now)
+    told (l .no6 .result) ≡ no6 (x .p .field) (tableRows (orderOf (x .p))) (x .table .now)
 six l = rw (← (l .before .table-rows .ensures .0)) (l .no6 .ensures)
 
 sizes-requires : tie.Need-sizes-requires
@@ -73,7 +74,7 @@ lending-requires c κs =
     let second = c .before .before .before .before in
     let first = second .before .before .before in (
       sized _ (passes _ _ (first .before .before .sizes .ensures) (first .enum-told .given .1)),
-      placing-says _ _ _ _ (passes _ _ (second .before .before .placing .ensures) (second .enum-told3 .given .1)) .listed,
+      placing-says _ _ _ (passes _ _ (second .before .before .placing .ensures) (second .enum-told3 .given .1)) .listed,
     )
 
 enum-told-7 : tie.Need-enum-told-7
@@ -98,7 +99,7 @@ no12-requires c κs =
     let third = c .before .before .before in
     let second = third .before .before .before .before in
     let first = second .before .before .before in
-    let p = placing-says _ _ _ _ (passes _ _ (second .before .before .placing .ensures) (second .enum-told3 .given .1)) in
+    let p = placing-says _ _ _ (passes _ _ (second .before .before .placing .ensures) (second .enum-told3 .given .1)) in
     let l = lending-says _ _ _ _ (passes _ _ (c .before .before .lending .ensures) (c .enum-told7 .given .1)) in (
       sized _ (passes _ _ (first .before .before .sizes .ensures) (first .enum-told .given .1)),
       (p .listed, (p .whole, ((omega (arith, l .masks), omega (arith, l .others)), l .nonzeros))),

@@ -106,6 +106,12 @@ enum-known-self-15 c = search needs
 with-detail-requires-15 : tie.Need-with-detail-requires-15
 with-detail-requires-15 c κs = search needs
 
+enum-told-3 : tie.Need-enum-told-3
+enum-told-3 c = search needs
+
+with-detail-requires-16 : tie.Need-with-detail-requires-16
+with-detail-requires-16 c κs = search needs
+
 returns : tie.Need-returns
 returns c = rw (c .before .before .self .given .1, c .with-detail .ensures)
 
@@ -157,6 +163,9 @@ returns-16 c = rw (c .before .before .self14 .given .1, c .with-detail14 .ensure
 returns-17 : tie.Need-returns-17
 returns-17 c = rw (c .before .before .self15 .given .1, c .with-detail15 .ensures)
 
+returns-18 : tie.Need-returns-18
+returns-18 c = rw (c .before .enum-told3 .given .1, c .with-detail16 .ensures)
+
 pub report-spec : {M : Type 1} → statement M
 report-spec =
     tie.close
@@ -195,6 +204,8 @@ report-spec =
     with-detail-requires-14
     enum-known-self-15
     with-detail-requires-15
+    enum-told-3
+    with-detail-requires-16
     returns
     returns-2
     returns-3
@@ -211,4 +222,5 @@ report-spec =
     returns-14
     returns-15
     returns-16
-    returns-17)
+    returns-17
+    returns-18)

@@ -1,0 +1,136 @@
+-- The steps before a place, told by the next place: before the first place there are none, and each step, when it is taken, is added at their
+-- end. So the draws taken so far grow by the step's own, and are the whole sum when all is done.
+-- Assumes nothing.
+use mathlib.Core.Bool.{Bool, true, false}
+use mathlib.Core.List.{List, [], _∷_, _++_, append-assoc, append-nil}
+use mathlib.Core.Path.{_≡_, refl, sym, ap, _∙_}
+use Prim.Native.Nat.{ℕ, zero, suc, _<_, _≤_, _+_, _-_}
+use native.Mathlib.Omega.{arith}
+use lib.Dec.{ltb, eqb}
+use lib.ListN.{take}
+use borrow.Author.Tests.{ltb-true, ltb-false}
+use Rattle.field.specs.Field.{pick}
+use Rattle.course.specs.declared.Step.{Step}
+use Rattle.course.specs.declared.Step.the-variants.{Mix, Check, Scale, Clear, Open}
+use Rattle.course.specs.declared.Place.{Place}
+use Rattle.course.specs.declared.Place.the-variants.{At, Stopped, Done}
+use Rattle.course.specs.declared.Order.{Order}
+use Rattle.course.specs.StepList.{each, column, columns, openings, stepList, upTo, inList, draws, maskCost, nonzeroCost, sumOver}
+use Rattle.course.specs.Taken.{beforeStep, stepsBefore, takenAt}
+use Rattle.course.specs.Next.{firstOf, following}
+use Rattle.course.proofs.Within.{within}
+use Rattle.course.proofs.Chain.{columns-split, check-last}
+use Rattle.course.proofs.Sums.{sum-append}
+
+-- one more of a run is its next one, at the end
+each-snoc : (f : ℕ → Step) (n a b k : ℕ) → b ≡ suc n → k ≡ a + n → each f a b ≡ each f a n ++ (f k ∷ [])
+unfolding each
+each-snoc f zero a b k e g =
+    let x : k ≡ a = omega arith in
+    rw (e, x)
+each-snoc f (suc n) a b k e g =
+    rw (e, each-snoc f n (a + 1) (suc n) k refl (omega arith))
+
+openings-snoc : (d n j : ℕ) → j + d ≡ n → 1 ≤ j → take (suc d) (openings n) ≡ take d (openings n) ++ (Open j ∷ [])
+unfolding openings
+openings-snoc d zero j e l = absurd (let n : ⊥ = omega arith in n)
+openings-snoc zero (suc n) j e l = let x : j ≡ suc n = omega arith in rw x
+openings-snoc (suc d) (suc n) j e l = ap (λ (l : List Step). Open (suc n) ∷ l) (openings-snoc d n j (omega arith) l)
+
+pub openings-all : (n : ℕ) → take n (openings n) ≡ openings n
+unfolding openings
+openings-all zero = refl
+openings-all (suc n) = ap (λ (l : List Step). Open (suc n) ∷ l) (openings-all n)
+
+-- by whether k is below m
+by-less : {A : Type 0} (P : A → Type 0) (k m : ℕ) {x y : A} → (k < m → P x) → (m ≤ k → P y) → P (pick (ltb k m) x y)
+by-less P k m {x} {y} a b = by (ltb k m) refl
+  where
+    by : (t : Bool) → ltb k m ≡ t → P (pick t x y)
+    by true e = a (ltb-true k m e)
+    by false e = b (ltb-false k m e)
+
+either : {A : Type 0} (P : A → Type 0) (b : Bool) {x y : A} → P x → P y → P (pick b x y)
+either P true a b = a
+either P false a b = b
+
+module _ (m : ℕ) where
+  pub none-first : stepsBefore m (firstOf m 1) ≡ []
+  unfolding stepsBefore beforeStep firstOf columns each
+  none-first =
+      by-less (λ (p : Place). stepsBefore m p ≡ []) 1 m (λ l. refl)
+      (λ l. let z : m - 1 ≡ 0 = omega arith in rw z)
+
+  -- the columns up to j, with column j written out
+  pub column-last : (j d : ℕ) → 1 ≤ j → j + d ≡ m
+      → columns m 1 j ≡ upTo m j ++ (Scale j ∷ each (Clear j) (j + 1) d)
+  unfolding columns column upTo
+  column-last j d a e =
+      let z : m - j ≡ d = omega arith in
+      simp (append-assoc, append-nil, z, columns-split m (j - 1) 1 1 j j (omega arith) (omega arith))
+
+  -- where the next column begins
+  column-first : (j : ℕ) → 1 ≤ j → j < m → stepsBefore m (firstOf m (j + 1)) ≡ columns m 1 j
+  unfolding stepsBefore beforeStep firstOf each
+  column-first j a l =
+      by-less (λ (p : Place). stepsBefore m p ≡ columns m 1 j) (j + 1) m
+      (λ h.
+      let x : j + 1 - 1 ≡ j = omega arith in
+      let y : j + 1 + 1 - (j + 1) - 1 ≡ 0 = omega arith in
+      rw (x, y, append-nil))
+      (λ h.
+      let x : j + 1 - 1 ≡ j = omega arith in
+      let y : m - (j + 1) ≡ 0 = omega arith in
+      rw (x, y, append-nil))
+
+  -- a step that is taken comes last of the steps before the next place
+  pub added : (s : Step) (x : ℕ) → inList m s ≡ true → stepsBefore m (following m s x) ≡ stepsBefore m (At s) ++ (s ∷ [])
+  unfolding following stepsBefore beforeStep stepList each
+  added (Mix j k) x h =
+      let w = within m (Mix j k) h in
+      by-less (λ (p : Place). stepsBefore m p ≡ stepsBefore m (At (Mix j k)) ++ (Mix j k ∷ [])) k m
+      (λ l. simp (append-assoc, each-snoc (Mix j) (k - j - 1) (j + 1) (k + 1 - j - 1) k (omega arith) (omega arith)))
+      (λ l. simp (append-assoc, each-snoc (Mix j) (k - j - 1) (j + 1) (m - j) k (omega arith) (omega arith)))
+  added (Check j) x h =
+      either (λ (p : Place). stepsBefore m p ≡ stepsBefore m (At (Check j)) ++ (Check j ∷ [])) (eqb x 1) (check-last m j) (check-last m j)
+  added (Scale j) x h =
+      let w = within m (Scale j) h in
+      by-less (λ (p : Place). stepsBefore m p ≡ stepsBefore m (At (Scale j)) ++ (Scale j ∷ [])) j m
+      (λ l. let z : j + 1 - j - 1 ≡ 0 = omega arith in rw z)
+      (λ l.
+      let z : m - m ≡ 0 = omega arith in
+      let e : j ≡ m = omega arith in
+      rw (z, append-nil, e) (column-last m 0 (omega arith) (omega arith)))
+  added (Clear j k) x h =
+      let w = within m (Clear j k) h in
+      by-less (λ (p : Place). stepsBefore m p ≡ stepsBefore m (At (Clear j k)) ++ (Clear j k ∷ [])) k m
+      (λ l. simp (append-assoc, each-snoc (Clear j) (k - j - 1) (j + 1) (k + 1 - j - 1) k (omega arith) (omega arith)))
+      (λ l.
+      column-first j (w .0) (omega arith)
+      ∙ column-last j (m - j) (w .0) (omega arith)
+      ∙ simp (append-assoc, each-snoc (Clear j) (k - j - 1) (j + 1) (m - j) k (omega arith) (omega arith)))
+  added (Open j) x h =
+      let w = within m (Open j) h in
+      by-less (λ (p : Place). stepsBefore m p ≡ stepsBefore m (At (Open j)) ++ (Open j ∷ [])) 1 j
+      (λ l.
+      let z : m - (j - 1) ≡ suc (m - j) = omega arith in
+      rw (z, openings-snoc (m - j) m j (omega arith) (w .0)) (simp append-assoc))
+      (λ l.
+      let z : m ≡ suc (m - j) = omega arith in
+      simp append-assoc (ap (λ (l : List Step). columns m 1 m ++ l) (sym (openings-all m) ∙ ap (λ (n : ℕ). take n (openings m)) z ∙ openings-snoc (m - j) m j (omega arith) (w .0))))
+
+module _ (o : Order) where
+  -- nothing is taken before the first place
+  pub taken-first : takenAt o (firstOf (o .size) 1) ≡ draws 0 0
+  unfolding takenAt sumOver
+  taken-first = rw (none-first (o .size))
+
+  -- and a step adds its own draws
+  pub taken-added : (s : Step) (x : ℕ) → inList (o .size) s ≡ true
+      → takenAt o (following (o .size) s x) ≡ draws (takenAt o (At s) .mask + maskCost o s) (takenAt o (At s) .nonzero + nonzeroCost o s)
+  unfolding takenAt sumOver
+  taken-added s x h =
+      let a = stepsBefore (o .size) (At s) in
+      let y : sumOver (maskCost o) (a ++ (s ∷ [])) ≡ sumOver (maskCost o) a + maskCost o s = omega (arith, sum-append (maskCost o) a (s ∷ [])) in
+      let z : sumOver (nonzeroCost o) (a ++ (s ∷ [])) ≡ sumOver (nonzeroCost o) a + nonzeroCost o s = omega (arith, sum-append (nonzeroCost o) a (s ∷ [])) in
+      rw (added (o .size) s x h, y, z)
