@@ -175,6 +175,7 @@ impl Progress {
         }
     }
 
+    // The record's sizes.
     fn order(self) -> Order
         ensures { λ r. ⌜ r ≡ orderOf self ⌝ }
     {
@@ -259,8 +260,9 @@ pub fn cost(o: Order, s: Step) -> Draws
     }
 }
 
-// What a place has taken beside the columns that are done: `width` is the columns of a row from the first column that is not done on (1 where
-// all are), `flags` so many zero flags more, and `more` and `less` so many times the N draws of all pairs.
+// The draws taken at a place, with no walk over the list: refusal 19 asks for them in every step call. What a place has taken beside the columns
+// that are done: `width` is the columns of a row from the first column that is not done on (1 where all are), `flags` so many zero flags more, and
+// `more` and `less` so many times the N draws of all pairs.
 pub struct Part {
     pub width: usize,
     pub flags: usize,
@@ -268,6 +270,7 @@ pub struct Part {
     pub less: usize,
 }
 
+// The zero flags of the whole columns: L-1 in each, for L = y+1..w columns of its rows.
 fn flags_over(w: usize, y: usize) -> usize
     requires { ⌜ (1 ≤ y) × (y ≤ w) × (w ≤ mostWidth) ⌝ }
     ensures { λ r. ⌜ (r ≡ flagsOver w y) × (r ≤ 2 * mostWidth * mostWidth) ⌝ }
@@ -275,6 +278,7 @@ fn flags_over(w: usize, y: usize) -> usize
     (w - y) * (w + y - 1) / 2
 }
 
+// The sum of (L-1)L in the same columns, whose steps take the N draws of all pairs twice as often.
 fn rows_over(w: usize, y: usize) -> usize
     requires { ⌜ (1 ≤ y) × (y ≤ w) × (w ≤ mostWidth) ⌝ }
     ensures { λ r. ⌜ (r ≡ rowsOver w y) × (r ≤ 4 * mostWidth * mostWidth * mostWidth) ⌝ }
@@ -283,6 +287,7 @@ fn rows_over(w: usize, y: usize) -> usize
     (w - y) * (s * s - w * y - 1) / 3
 }
 
+// At Clear(j,k) column j counts as done, less the Clears that are still to come.
 fn part_at(m: usize, s: Step) -> Part
     requires { ⌜ (m ≤ mostRows) × (inList m s ≡ true) ⌝ }
     ensures { λ r. ⌜ r ≡ partAt (m + 1) s ⌝ }
@@ -359,6 +364,7 @@ fn weighed(f: u64, n: usize, c: usize, flags: usize, times: usize) -> usize
     c * (n - 1) * (2 * n - 1) + flag::flag_draws(f, n) * flags + sharing::pair_count(n) * times
 }
 
+// The mask draws taken at the place that has this part.
 fn mask_of(f: u64, n: usize, w: usize, z: Part) -> usize
     requires { ⌜ (2 ≤ n) × (n ≤ 4) × (w ≤ mostWidth) × Kept w z ⌝ }
     ensures { λ r. ⌜ r ≡ maskOf f n w z ⌝ }

@@ -211,8 +211,7 @@ fn is_sound(matched: bool, p: Place) -> bool
     matched && !is_ended(p)
 }
 
-// 10, 19, 11, of a record that is at a place of the list, and whose counters match it, or not. All three at once: so a step of the list is told by
-// one test.
+// 10, 19, 11, of a record that is at a place of the list, and whose counters match it, or not. All three are told by one test.
 fn standing(p: Progress, listed: bool, matched: bool) -> Verdict
     requires { ⌜ (listed ≡ placed (p .size) (p .place)) × (matched ≡ listed && counted p) ⌝ }
     ensures { λ r. ⌜ told r ≡ standing p ⌝ }
@@ -235,6 +234,7 @@ pub fn wanted(p: Progress) -> Verdict
         return v;
     };
     let place = p.place;
+    // here and in placing, and not in one function for both: so the record is not handed on through memory
     let listed = is_placed(o.size, place);
     let matched = listed
         && course::agrees(
