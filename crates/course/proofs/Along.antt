@@ -22,7 +22,7 @@ use Rattle.course.proofs.Chain.{unique, chain as list-chain, tail, tail
 use Rattle.course.proofs.Members.{AllIn, all-in}
 use Rattle.course.proofs.Sums.{sum-append}
 
-either : {A : Type 0} (P : A → Type 0) (b : Bool) {x y : A} → P x → P y → P (pick b x y)
+pub either : {A : Type 0} (P : A → Type 0) (b : Bool) {x y : A} → P x → P y → P (pick b x y)
 either P true a b = a
 either P false a b = b
 

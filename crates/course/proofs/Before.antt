@@ -21,6 +21,7 @@ use Rattle.course.specs.Next.{firstOf, following}
 use Rattle.course.proofs.Within.{within}
 use Rattle.course.proofs.Chain.{columns-split, check-last}
 use Rattle.course.proofs.Sums.{sum-append}
+use Rattle.course.proofs.Along.{either}
 
 -- one more of a run is its next one, at the end
 each-snoc : (f : ℕ → Step) (n a b k : ℕ) → b ≡ suc n → k ≡ a + n → each f a b ≡ each f a n ++ (f k ∷ [])
@@ -49,10 +50,6 @@ by-less P k m {x} {y} a b = by (ltb k m) refl
     by : (t : Bool) → ltb k m ≡ t → P (pick t x y)
     by true e = a (ltb-true k m e)
     by false e = b (ltb-false k m e)
-
-either : {A : Type 0} (P : A → Type 0) (b : Bool) {x y : A} → P x → P y → P (pick b x y)
-either P true a b = a
-either P false a b = b
 
 module _ (m : ℕ) where
   pub none-first : stepsBefore m (firstOf m 1) ≡ []

@@ -228,24 +228,21 @@ module _ (o : Order) where
       beyond z 1 (o .size) 0 more (take d (openings (o .size))) (omega arith) (omega arith)
       (opens-sum (maskCost o) N (λ k. refl) d (o .size) l ∙ omega (arith, ap (λ k. k * N) e))
 
+  spread : (n L : ℕ) → n * (F + L * N) ≡ F * n + N * (n * L)
+  spread n L = omega arith
+
   step-mask : Sizes o → (s : Step) → inList (o .size) s ≡ true → mask (beforeStep (o .size) s) ≡ maskOf (o .field) (o .shares) w (partAt w s)
   unfolding beforeStep partAt
   step-mask z (Mix j k) h =
       let u = within (o .size) (Mix j k) h in
       beyond z (w + 1 - j) (j - 1) (k - j - 1) ((k - j - 1) * (w + 1 - j)) (each (Mix j) (j + 1) (k - j - 1)) (omega arith) (omega arith)
       (mixes-sum j (w + 1 - j) (k - j - 1) (omega arith) ∙ spread (k - j - 1) (w + 1 - j))
-    where
-      spread : (n L : ℕ) → n * (F + L * N) ≡ F * n + N * (n * L)
-      spread n L = omega arith
   step-mask z (Check j) h =
       let u = within (o .size) (Check j) h in
       let x : o .size - j ≡ w - 1 - j = omega arith in
       rw x
       (beyond z (w + 1 - j) (j - 1) (w - 1 - j) ((w - 1 - j) * (w + 1 - j)) (each (Mix j) (j + 1) (w - 1 - j)) (omega arith) (omega arith)
       (mixes-sum j (w + 1 - j) (w - 1 - j) (omega arith) ∙ spread (w - 1 - j) (w + 1 - j)))
-    where
-      spread : (n L : ℕ) → n * (F + L * N) ≡ F * n + N * (n * L)
-      spread n L = omega arith
   step-mask z (Scale j) h = let u = within (o .size) (Scale j) h in up-to z j (u .0) (u .1)
   step-mask z (Clear j k) h = let u = within (o .size) (Clear j k) h in clear-sum z j k (u .0) (u .1) (u .2)
   step-mask z (Open j) h = let u = within (o .size) (Open j) h in opens z (o .size - j) (w - 1 - j) (omega arith) (omega arith)

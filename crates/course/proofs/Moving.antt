@@ -1,7 +1,7 @@
 -- Which records move on, and where to: those whose order is taken, at a step of its list, with room for its draws. A record whose counters are
 -- the draws taken has room, and keeps to them.
 -- Assumes nothing.
-use mathlib.Core.Bool.{Bool, true, false, _&&_, _||_, false≢true}
+use mathlib.Core.Bool.{Bool, true, false, _&&_, _||_}
 use mathlib.Core.Logic.{_⊎_, inl, inr, ⊎-elim}
 use mathlib.Core.Path.{_≡_, refl, sym, ap, _∙_}
 use Prim.Native.Nat.{ℕ, _<_, _≤_, _+_, _*_}
@@ -18,11 +18,8 @@ use Rattle.course.specs.declared.Progress.{Progress}
 use Rattle.course.specs.StepList.{Sizes, sized, inList, maskCost, nonzeroCost}
 use Rattle.course.specs.Taken.{takenAt}
 use Rattle.course.specs.Next.{following, recordAt, orderOf, fits, moves, movedOn, nextFrom, nextOf, startOf, counted}
+use Rattle.course.proofs.Within.{both}
 use Rattle.course.proofs.Before.{taken-first, taken-added}
-
-pub both : (a b : Bool) → a && b ≡ true → (a ≡ true) × (b ≡ true)
-both true b h = (refl, h)
-both false b h = absurd (false≢true h)
 
 one : (a b : Bool) → a || b ≡ true → (a ≡ true) ⊎ (b ≡ true)
 one true b h = inl refl

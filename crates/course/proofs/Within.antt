@@ -16,7 +16,7 @@ Within m (Scale j) = (1 ≤ j) × (j ≤ m)
 Within m (Clear j k) = (1 ≤ j) × (j < k) × (k ≤ m)
 Within m (Open j) = (1 ≤ j) × (j ≤ m)
 
-both : (a b : Bool) → a && b ≡ true → (a ≡ true) × (b ≡ true)
+pub both : (a b : Bool) → a && b ≡ true → (a ≡ true) × (b ≡ true)
 both true b h = (refl, h)
 both false b h = absurd (false≢true h)
 

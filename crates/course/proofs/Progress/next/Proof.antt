@@ -13,7 +13,8 @@ use Rattle.course.specs.declared.Order.{Order}
 use Rattle.course.specs.declared.Draws.{Draws}
 use Rattle.course.specs.StepList.{sized, inList, costOf, maskCost, nonzeroCost}
 use Rattle.course.specs.Next.{orderOf, fits, nextFrom, nextOf}
-use Rattle.course.proofs.Moving.{both, sizes-so, moves-on, stays, unlisted-stays, full-stays, listed-moves, room-so}
+use Rattle.course.proofs.Within.{both}
+use Rattle.course.proofs.Moving.{sizes-so, moves-on, stays, unlisted-stays, full-stays, listed-moves, room-so}
 use borrow.Author.Needs.{needs}
 use Rattle.course.proofs.Progress.next.Statement.{statement}
 use Rattle.course.proofs.Progress.next.Tie as tie
