@@ -10,7 +10,7 @@
 #include <string.h>
 
 #define MAX_TABLE (96 * 97 * 4)
-#define MAX_MASK 3778608
+#define MAX_MASK 3820512
 
 static uint8_t values[MAX_TABLE], table[MAX_TABLE], mask[MAX_MASK], nonzero[96 * 3], got[MAX_TABLE], wanted[MAX_TABLE];
 static uint64_t counts[4];

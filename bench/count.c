@@ -17,7 +17,7 @@
 #include <string.h>
 
 #define MAX_TABLE (96 * 97 * 4)
-#define MAX_MASK 3778608 /* F256, n = 4, m = 96 */
+#define MAX_MASK 3820512 /* F256, n = 4, m = 96 */
 
 static x86 *machine;
 

@@ -106,36 +106,43 @@ INLINE void refresh(work *t, unsigned w, unsigned n, uint8_t a[4])
     }
 }
 
-INLINE uint8_t opening(work *t, unsigned w, unsigned n, uint8_t a[4])
+/* Opening's first half, and what R-6 has a fold do with its shifted copy. */
+INLINE void pair_refresh(const uint8_t **mask, unsigned w, unsigned n, uint8_t a[4])
 {
     for (unsigned i = 0; i < n; i++)
         for (unsigned j = i + 1; j < n; j++) {
-            uint8_t r = draw(w, &t->mask);
+            uint8_t r = draw(w, mask);
             a[i] ^= r;
-            HOLD_BYTE(a[i]);
             a[j] ^= r;
-            HOLD_BYTE(a[j]);
         }
-    uint8_t sum = a[0];
-    for (unsigned s = 1; s < n; s++)
+}
+
+INLINE uint8_t opening(work *t, unsigned w, unsigned n, uint8_t a[4])
+{
+    uint8_t sum = 0;
+    pair_refresh(&t->mask, w, n, a);
+    for (unsigned s = 0; s < n; s++) {
+        HOLD_BYTE(a[s]);
         sum ^= a[s];
+    }
     return sum;
 }
 
 /* a becomes the sharing of 1 where its value is 0, else of 0. */
 INLINE void zero_flag(work *t, unsigned w, unsigned n, uint8_t a[4])
 {
+    const uint8_t *mask = t->mask; /* a copy, as in add_product */
     a[0] ^= (uint8_t)((1u << w) - 1);
     for (unsigned h = w / 2; h >= 1; h /= 2) {
         uint8_t b[4], out[4];
         for (unsigned s = 0; s < n; s++)
             b[s] = a[s] >> h;
-        refresh(t, w, n, b);
+        pair_refresh(&mask, w, n, b);
         for (unsigned s = 0; s < n; s++)
             out[s] = a[s] & b[s];
         for (unsigned i = 0; i < n; i++)
             for (unsigned j = i + 1; j < n; j++) {
-                uint8_t z = draw(w, &t->mask), z2 = (a[i] & b[j]) ^ z;
+                uint8_t z = draw(w, &mask), z2 = (a[i] & b[j]) ^ z;
                 HOLD_BYTE(z2);
                 z2 ^= a[j] & b[i];
                 HOLD_BYTE(z2);
@@ -146,6 +153,7 @@ INLINE void zero_flag(work *t, unsigned w, unsigned n, uint8_t a[4])
     }
     for (unsigned s = 0; s < n; s++)
         a[s] &= 1;
+    t->mask = mask;
 }
 
 /* ---- Rows ---- */

@@ -139,7 +139,7 @@
 extern "C" {
 #endif
 
-#define HZ_VERSION "0.13" /* ./install takes it from here for pkg-config */
+#define HZ_VERSION "0.14" /* ./install takes it from here for pkg-config */
 
 #define HZ_RECORD_WORDS 8
 #define HZ_ANSWER_WORDS 4
@@ -200,8 +200,8 @@ uint64_t hz_wanted(const uint64_t *record, size_t record_len,
  * the draws that each must be lent, as hz_wanted tells them:
  *
  *     step        does                                mask draws            nonzero
- *     Mix(j,k)    adds row k to row j if T[j,j] is 0  f(n-1+N) + L·N        0
- *     Check(j)    opens whether T[j,j] is 0           f(n-1+N) + N          0
+ *     Mix(j,k)    adds row k to row j if T[j,j] is 0  f·2N + L·N            0
+ *     Check(j)    opens whether T[j,j] is 0           f·2N + N              0
  *     Scale(j)    makes T[j,j] 1                      (n-1)²+N + n(n-1)L    n-1
  *     Clear(j,k)  makes T[k,j] 0                      L·N                   0
  *     Open(j)     opens x_j                           N                     0

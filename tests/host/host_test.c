@@ -19,7 +19,7 @@
 
 #define RANDOM_CASES 16000
 #define MAX_TABLE (96 * 97 * 4)
-#define MAX_MASK 3778608 /* F256, n = 4, m = 96 */
+#define MAX_MASK 3820512 /* F256, n = 4, m = 96 */
 #define MAX_NONZERO (96 * 3)
 #define MAX_TOLD 65535 /* the longest body that an exchange record can tell of */
 #define SPARE 4096 /* how much longer than right one fault makes a buffer */
@@ -259,6 +259,20 @@ static void same_bytes(const buffer *b, const uint8_t *wanted, const char *whose
 CALL(hz, library)
 CALL(model, model)
 
+/* How many accepted calls made a zero flag, of Mix, of Check and of whole solves, by field
+ * (16 first) and by shares from 2. */
+enum { WHOLE_SOLVE = HZ_CHECK + 1, FLAG_MAKERS };
+static uint64_t flags_made[FLAG_MAKERS][2][3];
+
+static void note_flag(int kind)
+{
+    const uint64_t *r = words(&record);
+    if (kind == STEP && r[HZ_STEP] <= HZ_CHECK)
+        flags_made[r[HZ_STEP]][r[HZ_FIELD] != 16][r[HZ_SHARES] - 2]++;
+    if (kind == SOLVE)
+        flags_made[WHOLE_SOLVE][field != 16][shares - 2]++;
+}
+
 /* Calls both sides and compares the answer and every lent byte. */
 static uint64_t call(int kind)
 {
@@ -283,6 +297,8 @@ static uint64_t call(int kind)
         for (int i = 0; lent[i] != NULL; i++)
             if (lent[i] != &answer || code == HZ_BAD_WORDS)
                 same_bytes(lent[i], lent[i]->lent, "before");
+    if (code != HZ_REFUSED && code != HZ_BAD_WORDS)
+        note_flag(kind);
     for (int i = 0; lent[i] != NULL; i++)
         memcpy(lent[i]->lent, lent[i]->model, bytes_of(lent[i]));
     return code;
@@ -338,8 +354,9 @@ static void make_dependent(uint64_t c)
     }
 }
 
-#define LAST_COLUMN 3 /* kinds of systems that large ones ask for by name */
+#define LAST_COLUMN 3 /* kinds of systems that are asked for by name */
 #define FITTING_B 4
+#define TRIANGULAR 7
 #define RANDOM 11
 #define SYSTEMS 12
 
@@ -378,7 +395,7 @@ static void make_values(uint64_t kind)
             for (uint64_t c = 0; c < size; c++)
                 *value(r, c) = c == (r + turn) % size ? nonzero_element() : 0;
         break;
-    case 7: /* triangular, the diagonal perhaps with zeros */
+    case TRIANGULAR: /* the diagonal perhaps with zeros */
         for (uint64_t r = 0; r < size; r++)
             memset(value(r, 0), 0, r);
         break;
@@ -2143,6 +2160,114 @@ static void case_of_write_faults(uint64_t i)
     call_expecting(WRITE);
 }
 
+/* ---- The zero flag (R-6) ----
+ *
+ * Mix adds Product(flag, row k) to row j. Where an entry of row k is (1,0,..,0) and the
+ * draws of its Product are 0, the Product is the flag itself, share for share: out_1 is
+ * flag_1, and the pair (1,s) adds flag_s to out_s. */
+
+/* Flags worked out from 01 and R-6, and not by the model: 01's example, where R-6 changes
+ * nothing; R-6's; and two at four shares, which every wrong flag of mutants.c changes. The
+ * comments have the entry with share 1 complemented, and then of each fold t, t refreshed,
+ * and the And. */
+static const struct {
+    uint64_t field, shares;
+    size_t mask, before;                  /* the draws of Mix at size 2, and before R-6 */
+    uint8_t entry[4], draws[54], flag[4]; /* the last draws are the Products' */
+} flag_vectors[] = {
+    {16, 2, 7, 7, {3, 3}, {0}, {0, 1}},
+    /* 14,2,3; 3,0,0 0,2,1 1,2,0; 0,1,0 15,15,1 0,7,6. With 01's Refresh it was (1,1,1). */
+    {16, 3, 21, 19, {1, 2, 3}, {1, 2, 3, 4, 5, 6, 7, 8, 9, 10, 11, 12}, {0, 1, 0}},
+    /* 8,5,3,1; 2,1,0,0 6,9,7,11 11,0,0,8; 5,0,0,4 8,14,6,1 8,13,9,13 */
+    {16, 4, 42, 36, {7, 5, 3, 1},
+     {2, 7, 1, 8, 2, 8, 1, 8, 2, 8, 4, 5, 9, 0, 4, 5, 2, 3, 5, 3, 6, 0, 2, 8},
+     {0, 1, 1, 1}},
+    /* in hex: a8,83,d4; a,8,d b,a,e f,f,f; 3,3,3 2,d,c 1,0,2; 0,0,1 1,2,2 3e,3e,1 */
+    {256, 3, 27, 24, {0x57, 0x83, 0xd4},
+     {16, 17, 18, 19, 20, 21, 22, 23, 24, 25, 26, 27, 28, 29, 30, 31, 32, 33},
+     {0, 0, 1}},
+    /* in hex: a8,c1,ae,38; a,c,a,3 7b,25,1e,4f e0,fb,ec,f8; 38,3e,3b,3e 38,dd,6,e0 13,b7,8f,28;
+     * 9,5b,47,14 d5,27,bf,4c b1,d4,ee,8a */
+    {256, 4, 54, 45, {0x57, 0xc1, 0xae, 0x38},
+     {0x24, 0x3f, 0x6a, 0x88, 0x85, 0xa3, 0x08, 0xd3, 0x13, 0x19, 0x8a, 0x2e, 0x03, 0x70, 0x73, 0x44, 0xa4, 0x09,
+      0x38, 0x22, 0x29, 0x9f, 0x31, 0xd0, 0x08, 0x2e, 0xfa, 0x98, 0xec, 0x4e, 0x6c, 0x89, 0x45, 0x28, 0x21, 0xe6},
+     {1, 0, 0, 0}},
+};
+#define ALL_FLAG_VECTORS (sizeof flag_vectors / sizeof flag_vectors[0])
+
+static void case_of_flag_vectors(uint64_t i)
+{
+    uint8_t wanted[2 * 3 * 4] = {0};
+    field = flag_vectors[i].field;
+    shares = flag_vectors[i].shares;
+    size = 2;
+    memcpy(wanted, flag_vectors[i].entry, shares); /* T[1,1]; the rest of row 1 is 0 */
+    for (uint64_t c = 0; c < 3; c++)
+        wanted[(3 + c) * shares] = 1;
+    table.len = 2 * 3 * shares;
+    memcpy(table.lent, wanted, table.len);
+    for (uint64_t c = 0; c < 3; c++)
+        for (uint64_t s = 0; s < shares; s++)
+            wanted[c * shares + s] ^= flag_vectors[i].flag[s];
+    solution.len = size;
+    fill(solution.lent, size);
+    fresh_words();
+    set_record(HZ_MIX, 1, 2);
+    make_nonzero(0);
+    memcpy(mask.lent, flag_vectors[i].draws, sizeof flag_vectors[i].draws);
+    mask.len = flag_vectors[i].before;
+    expect(7, flag_vectors[i].mask, 0, 0);
+    if (shares > 2)
+        call_expecting(STEP);
+    mask.len = flag_vectors[i].mask;
+    expect(0, 0, 0, 0);
+    call_expecting(STEP);
+    demand(memcmp(table.lent, wanted, table.len) == 0, "another flag than R-6's");
+}
+
+/* ---- Counts ---- */
+
+/* 01's counts, as R-6 has them. */
+static const struct {
+    uint64_t field, shares, size, stops; /* the column, or 0 for a full solve */
+    uint64_t steps, mask, nonzero;
+} count_vectors[] = {
+    {16, 2, 1, 0, 3, 12, 1},   {16, 2, 2, 0, 8, 36, 2},   {16, 2, 2, 1, 2, 12, 0},  {16, 2, 2, 2, 5, 28, 1},
+    {16, 3, 1, 0, 3, 37, 2},   {16, 3, 2, 0, 8, 110, 4},  {16, 3, 2, 1, 2, 36, 0},  {16, 3, 2, 2, 5, 85, 2},
+    {16, 4, 1, 0, 3, 75, 3},   {256, 2, 1, 0, 3, 14, 1},  {256, 3, 1, 0, 3, 43, 2}, {256, 3, 2, 0, 8, 128, 4},
+    {256, 3, 2, 1, 2, 48, 0},  {256, 3, 2, 2, 5, 103, 2}, {256, 4, 1, 0, 3, 87, 3}, {256, 4, 1, 1, 1, 42, 0},
+    {256, 4, 96, 0, 9408, 3820512, 288},
+};
+#define ALL_COUNT_VECTORS (sizeof count_vectors / sizeof count_vectors[0])
+
+static void case_of_count_vectors(uint64_t i)
+{
+    uint64_t stops = count_vectors[i].stops;
+    uint64_t counts[] = {count_vectors[i].steps, count_vectors[i].mask, count_vectors[i].nonzero};
+    field = count_vectors[i].field;
+    shares = count_vectors[i].shares;
+    size = count_vectors[i].size;
+    make_values(TRIANGULAR);
+    for (uint64_t r = 0; r < size; r++)
+        *value(r, r) = r + 1 == stops ? 0 : nonzero_element();
+    make_table();
+    solution.len = size;
+    fill(solution.lent, size);
+    fresh_words();
+    if (stops == 0) {
+        demand(call(COUNTS) == HZ_COUNTS, "no counts");
+        demand(memcmp(answer.lent, counts, sizeof counts) == 0, "other counts than the papers'");
+        make_mask(counts[1] - 1);
+        make_nonzero(counts[2]);
+        expect(7, counts[1], 0, 0);
+        call_expecting(SOLVE);
+    }
+    make_tapes(SOLVE);
+    demand(call(SOLVE) == (stops == 0 ? HZ_SOLVED : HZ_STOPPED), "not the kind of system that was made");
+    demand(stops == 0 || words(&answer)[0] == stops, "stopped at another column");
+    demand(memcmp(words(&answer) + (stops != 0), counts, sizeof counts) == 0, "other counts than the papers'");
+}
+
 /* ---- How far along (R-5) ----
  *
  * A record counts the draws of the steps before its place. Here these sums are known from
@@ -2152,25 +2277,27 @@ static void case_of_write_faults(uint64_t i)
 typedef struct {
     uint64_t step, j, k;
     uint64_t mask, nonzero; /* drawn by the steps before it */
+    uint64_t flags;         /* made by them */
 } place;
 
 /* The places in their order: the steps, behind each Check its stop, and at last done. */
 static place list[96 * (96 + 2) + 96 + 1];
 static size_t list_len;
-static uint64_t mask_drawn, nonzero_drawn; /* by the steps of the list so far */
+static uint64_t mask_drawn, nonzero_drawn, flags_drawn; /* by the steps of the list so far */
 
 static void add_place(uint64_t step, uint64_t j, uint64_t k)
 {
-    list[list_len++] = (place){step, j, k, mask_drawn, nonzero_drawn};
+    list[list_len++] = (place){step, j, k, mask_drawn, nonzero_drawn, flags_drawn};
     if (step > HZ_OPEN)
         return;
     mask_drawn += model_mask_draws(field, shares, size, step, j);
     nonzero_drawn += model_nonzero_draws(shares, step);
+    flags_drawn += step == HZ_MIX || step == HZ_CHECK;
 }
 
 static void make_list(void)
 {
-    list_len = mask_drawn = nonzero_drawn = 0;
+    list_len = mask_drawn = nonzero_drawn = flags_drawn = 0;
     for (uint64_t j = 1; j <= size; j++) {
         for (uint64_t k = j + 1; k <= size; k++)
             add_place(HZ_MIX, j, k);
@@ -2205,6 +2332,7 @@ enum {
     OF_OTHER_FIELD, /* of this place in another list */
     OF_OTHER_SHARES,
     OF_OTHER_SIZE,
+    OF_01, /* of this place before R-6; at two shares they are right */
     MASK_HUGE,
     NONZERO_HUGE,
     BOTH_HUGE,
@@ -2226,6 +2354,13 @@ static void set_counters_of(uint64_t other_field, uint64_t other_shares, uint64_
     uint64_t mask_taken, nonzero_taken;
     model_taken(other_field, other_shares, other_size, p->step, p->j, p->k, &mask_taken, &nonzero_taken);
     set_counters(mask_taken, nonzero_taken);
+}
+
+/* R-6 has a flag take f·2N draws, where 01 had f(n-1+N). */
+static uint64_t more_for_a_flag(void)
+{
+    uint64_t f = field == 16 ? 2 : 3, pairs = shares * (shares - 1) / 2;
+    return f * 2 * pairs - f * (shares - 1 + pairs);
 }
 
 static void make_counters(size_t at, int kind)
@@ -2263,6 +2398,9 @@ static void make_counters(size_t at, int kind)
         break;
     case OF_OTHER_SIZE:
         set_counters_of(field, shares, size == 96 ? 95 : size + 1, p);
+        break;
+    case OF_01:
+        set_counters(p->mask - p->flags * more_for_a_flag(), p->nonzero);
         break;
     case MASK_HUGE:
         set_counters(UINT64_MAX, p->nonzero);
@@ -2539,7 +2677,7 @@ static void case_of_large_counters(uint64_t i)
             wanted_at(at, kind, 0);
 }
 
-/* Examples of R-5, and 01's counts. The places of a list follow each other. */
+/* Examples of R-5, and 01's counts, as R-6 has them. The places of a list follow each other. */
 static const struct {
     uint64_t record[HZ_RECORD_WORDS];
     uint64_t number; /* by which both calls refuse it, or 0 */
@@ -2556,24 +2694,49 @@ static const struct {
     {{16, 2, 2, HZ_AT_STOPPED, 1, 0, 12, 0}, 11},
     {{16, 2, 2, HZ_AT_STOPPED, 2, 0, 28, 1}, 11},
     {{256, 3, 2, HZ_MIX, 1, 2, 0, 0}, 0},
-    {{256, 3, 2, HZ_CHECK, 1, 0, 24, 0}, 0},
-    {{256, 3, 2, HZ_SCALE, 1, 0, 42, 0}, 0},
-    {{256, 3, 2, HZ_CLEAR, 1, 2, 67, 2}, 0},
-    {{256, 3, 2, HZ_CHECK, 2, 0, 76, 2}, 0},
-    {{256, 3, 2, HZ_SCALE, 2, 0, 94, 2}, 0},
-    {{256, 3, 2, HZ_OPEN, 2, 0, 113, 4}, 0},
-    {{256, 3, 2, HZ_OPEN, 1, 0, 116, 4}, 0},
-    {{256, 3, 2, HZ_AT_DONE, 0, 0, 119, 4}, 11},
-    {{256, 3, 2, HZ_AT_STOPPED, 1, 0, 42, 0}, 11},
-    {{256, 3, 2, HZ_AT_STOPPED, 2, 0, 94, 2}, 11},
+    {{256, 3, 2, HZ_CHECK, 1, 0, 27, 0}, 0},
+    {{256, 3, 2, HZ_SCALE, 1, 0, 48, 0}, 0},
+    {{256, 3, 2, HZ_CLEAR, 1, 2, 73, 2}, 0},
+    {{256, 3, 2, HZ_CHECK, 2, 0, 82, 2}, 0},
+    {{256, 3, 2, HZ_SCALE, 2, 0, 103, 2}, 0},
+    {{256, 3, 2, HZ_OPEN, 2, 0, 122, 4}, 0},
+    {{256, 3, 2, HZ_OPEN, 1, 0, 125, 4}, 0},
+    {{256, 3, 2, HZ_AT_DONE, 0, 0, 128, 4}, 11},
+    {{256, 3, 2, HZ_AT_STOPPED, 1, 0, 48, 0}, 11},
+    {{256, 3, 2, HZ_AT_STOPPED, 2, 0, 103, 2}, 11},
+    {{16, 4, 2, HZ_MIX, 1, 2, 0, 0}, 0},
+    {{16, 4, 2, HZ_CHECK, 1, 0, 42, 0}, 0},
+    {{16, 4, 2, HZ_SCALE, 1, 0, 72, 0}, 0},
+    {{16, 4, 2, HZ_CLEAR, 1, 2, 123, 3}, 0},
+    {{16, 4, 2, HZ_CHECK, 2, 0, 141, 3}, 0},
+    {{16, 4, 2, HZ_SCALE, 2, 0, 171, 3}, 0},
+    {{16, 4, 2, HZ_OPEN, 2, 0, 210, 6}, 0},
+    {{16, 4, 2, HZ_OPEN, 1, 0, 216, 6}, 0},
+    {{16, 4, 2, HZ_AT_DONE, 0, 0, 222, 6}, 11},
+    {{16, 4, 2, HZ_AT_STOPPED, 1, 0, 72, 0}, 11},
+    {{16, 4, 2, HZ_AT_STOPPED, 2, 0, 171, 3}, 11},
     {{16, 2, 1, HZ_CHECK, 1, 0, 0, 0}, 0},
     {{16, 2, 1, HZ_SCALE, 1, 0, 5, 0}, 0},
     {{16, 2, 1, HZ_OPEN, 1, 0, 11, 1}, 0},
     {{16, 2, 1, HZ_AT_DONE, 0, 0, 12, 1}, 11},
     {{16, 2, 1, HZ_AT_STOPPED, 1, 0, 5, 0}, 11},
-    {{16, 3, 1, HZ_AT_DONE, 0, 0, 35, 2}, 11},
+    {{16, 3, 1, HZ_CHECK, 1, 0, 0, 0}, 0},
+    {{16, 3, 1, HZ_SCALE, 1, 0, 15, 0}, 0},
+    {{16, 3, 1, HZ_OPEN, 1, 0, 34, 2}, 0},
+    {{16, 3, 1, HZ_AT_DONE, 0, 0, 37, 2}, 11},
+    {{16, 3, 1, HZ_AT_STOPPED, 1, 0, 15, 0}, 11},
+    {{256, 4, 1, HZ_CHECK, 1, 0, 0, 0}, 0},
+    {{256, 4, 1, HZ_SCALE, 1, 0, 42, 0}, 0},
+    {{256, 4, 1, HZ_OPEN, 1, 0, 81, 3}, 0},
+    {{256, 4, 1, HZ_AT_DONE, 0, 0, 87, 3}, 11},
+    {{256, 4, 1, HZ_AT_STOPPED, 1, 0, 42, 0}, 11},
+    {{16, 3, 2, HZ_AT_STOPPED, 1, 0, 36, 0}, 11},
+    {{16, 3, 2, HZ_AT_STOPPED, 2, 0, 85, 2}, 11},
+    {{16, 3, 2, HZ_AT_DONE, 0, 0, 110, 4}, 11},
+    {{16, 4, 1, HZ_AT_DONE, 0, 0, 75, 3}, 11},
     {{256, 2, 1, HZ_AT_DONE, 0, 0, 14, 1}, 11},
-    {{256, 4, 96, HZ_AT_DONE, 0, 0, 3778608, 288}, 11},
+    {{256, 3, 1, HZ_AT_DONE, 0, 0, 43, 2}, 11},
+    {{256, 4, 96, HZ_AT_DONE, 0, 0, 3820512, 288}, 11},
     {{16, 2, 2, HZ_CHECK, 1, 0, 7, 1}, 19},
     {{16, 2, 2, HZ_CHECK, 1, 0, 12, 0}, 19},
     {{16, 2, 2, HZ_MIX, 1, 2, UINT64_MAX, UINT64_MAX}, 19},
@@ -2583,8 +2746,20 @@ static const struct {
     {{16, 2, 2, HZ_AT_DONE, 0, 0, 35, 2}, 19},
     {{16, 2, 2, HZ_AT_DONE, 0, 0, 0, 0}, 19},
     {{16, 2, 2, HZ_AT_DONE, 0, 0, UINT64_MAX, UINT64_MAX}, 19},
-    {{256, 4, 96, HZ_AT_DONE, 0, 0, 3778607, 288}, 19},
-    {{256, 4, 96, HZ_AT_DONE, 0, 0, 3778608, 287}, 19},
+    {{256, 4, 96, HZ_AT_DONE, 0, 0, 3820511, 288}, 19},
+    {{256, 4, 96, HZ_AT_DONE, 0, 0, 3820512, 287}, 19},
+    /* these were right before R-6 */
+    {{16, 3, 1, HZ_SCALE, 1, 0, 13, 0}, 19},
+    {{16, 3, 1, HZ_AT_STOPPED, 1, 0, 13, 0}, 19},
+    {{16, 3, 1, HZ_AT_DONE, 0, 0, 35, 2}, 19},
+    {{256, 3, 2, HZ_CHECK, 1, 0, 24, 0}, 19},
+    {{256, 3, 2, HZ_OPEN, 1, 0, 116, 4}, 19},
+    {{256, 3, 2, HZ_AT_STOPPED, 2, 0, 94, 2}, 19},
+    {{256, 3, 2, HZ_AT_DONE, 0, 0, 119, 4}, 19},
+    {{16, 4, 1, HZ_AT_DONE, 0, 0, 69, 3}, 19},
+    {{256, 4, 1, HZ_SCALE, 1, 0, 33, 0}, 19},
+    {{256, 4, 1, HZ_AT_DONE, 0, 0, 78, 3}, 19},
+    {{256, 4, 96, HZ_AT_DONE, 0, 0, 3778608, 288}, 19},
     {{16, 2, 2, HZ_MIX, 2, 2, 0, 0}, 10},
     {{16, 2, 2, HZ_MIX, 2, 2, 20, 1}, 10},
     {{16, 2, 2, HZ_MIX, 2, 2, 23, 1}, 10},
@@ -2774,6 +2949,24 @@ static void case_of_large_ways(uint64_t i)
     compare_ways(i % 2 == 0 ? 0 : 1 + below(size));
 }
 
+/* Tells how often flags of three and four shares were compared. False where that was
+ * seldom for some field and number of shares. */
+static bool tell_flags(void)
+{
+    uint64_t sums[FLAG_MAKERS] = {0}, fewest = UINT64_MAX;
+    for (int maker = 0; maker < FLAG_MAKERS; maker++)
+        for (int f = 0; f < 2; f++)
+            for (int n = 3; n <= 4; n++) {
+                uint64_t made = flags_made[maker][f][n - 2];
+                sums[maker] += made;
+                fewest = made < fewest ? made : fewest;
+            }
+    printf("at three and four shares Mix was compared %" PRIu64 " times, Check %" PRIu64 " and whole solves %" PRIu64
+           ", each in each field and number of shares at least %" PRIu64 "\n",
+           sums[HZ_MIX], sums[HZ_CHECK], sums[WHOLE_SOLVE], fewest);
+    return fewest >= 1000;
+}
+
 /* What a whole run must have gone through. */
 static void look_back(void)
 {
@@ -2787,7 +2980,8 @@ static void look_back(void)
     printf("%" PRIu64 " exchange records were made up, of which %" PRIu64 " are damaged\n", made_up_records,
            damaged_records);
     printf("%" PRIu64 " records of a right place had wrong counters\n", counters_refused);
-    if (systems >= 20000 && 2 * singular_systems == systems && all_met && made_up_records >= 50000)
+    bool often = tell_flags();
+    if (systems >= 20000 && 2 * singular_systems == systems && all_met && made_up_records >= 50000 && often)
         return;
     printf("these are too few, or not half, or a column of some size was never the first, or a kind of place never had "
            "wrong counters\n");
@@ -2851,6 +3045,7 @@ static const struct {
     void (*run)(uint64_t i); /* i from 0 to count - 1 */
 } cases[] = {
     {ALL_SMALL, case_of_places},
+    {ALL_FLAG_VECTORS, case_of_flag_vectors},
     {ALL_COUNTER_VECTORS, case_of_counter_vectors},
     {ALL_LENGTHS, case_of_lengths},
     {ALL_CELL_VECTORS, case_of_cell_vectors},
@@ -2858,6 +3053,7 @@ static const struct {
     {ALL_TAPE_VECTORS, case_of_tape_vectors},
     {ALL_TAPES, case_of_tapes},
     {ALL_SMALL, case_of_counters},
+    {ALL_COUNT_VECTORS, case_of_count_vectors},
     {ALL_SIZES, case_of_sizes},
     {ALL_REFUSED_SHARES, case_of_refused_shares},
     {ALL_VECTORS, case_of_vectors},

@@ -130,7 +130,7 @@ static sharing bit_and(task *t, sharing a, sharing b)
     return out;
 }
 
-/* Opening's first half. */
+/* Opening's first half; R-6 has it in each fold of the zero flag too. */
 static sharing pair_refresh(task *t, sharing a)
 {
     for (uint64_t i = 0; i < t->n; i++)
@@ -159,7 +159,7 @@ static sharing zero_flag(task *t, sharing a)
         sharing folded = a;
         for (uint64_t s = 0; s < t->n; s++)
             folded.share[s] >>= h;
-        folded = refresh(t, folded);
+        folded = pair_refresh(t, folded);
         a = bit_and(t, a, folded);
     }
     for (uint64_t s = 0; s < t->n; s++)
@@ -302,11 +302,12 @@ static uint64_t by_columns(uint64_t field, uint64_t m, const uint8_t *values, ui
 uint64_t model_mask_draws(uint64_t field, uint64_t n, uint64_t m, uint64_t step, uint64_t j)
 {
     uint64_t f = field == 16 ? 2 : 3, pairs = n * (n - 1) / 2, columns = m + 2 - j;
+    uint64_t flag = f * 2 * pairs; /* */
     switch (step) {
     case HZ_MIX:
-        return f * (n - 1 + pairs) + columns * pairs;
+        return flag + columns * pairs;
     case HZ_CHECK:
-        return f * (n - 1 + pairs) + pairs;
+        return flag + pairs;
     case HZ_SCALE:
         return (n - 1) * (n - 1) + pairs + n * (n - 1) * columns;
     case HZ_CLEAR:

@@ -84,6 +84,21 @@
  *     more taken CALL         takes counters that are larger
  *     stop without Check CALL wants of a stop what was drawn before its Check
  *
+ * and of R-6, where a wrong flag comes of other draws than were lent:
+ *
+ *     own tapes                hz_step and hz_solve go on with copies of the mask tape, which is no fault
+ *     01's flag CALL           the first f(n-1+N) draws are taken as 01 had it, and the others left
+ *     one Refresh CALL         each fold refreshes as 01 had it, with n-1 of its first N draws
+ *     first fold alone CALL    each fold but the first does
+ *     And first CALL           each fold takes the And's draws before those of its refresh
+ *     draws twice CALL         the And takes those of its refresh again
+ *     one list CALL            each fold takes those of the first
+ *     pairs by the second CALL the pairs are (1,2), (1,3), (2,3), (1,4) and so on
+ *     01's draws CALL          hz_wanted and hz_counts tell f(n-1+N) for a flag, and the others take such a tape
+ *     01's sum                 hz_solve tells that it took so many
+ *     01's counters CALL       takes a record that counts so many for right
+ *     adds 01's draws          hz_step counts so many
+ *
  * Linked with --wrap for every call. */
 #include "hostozaro.h"
 #include "model.h"
@@ -130,6 +145,13 @@ static void look(const char *at, const void *buffer, size_t bytes)
 #define BYTES(call, buffer) look(#call " " #buffer, buffer, buffer##_len)
 #define WORDS(call, buffer) look(#call " " #buffer, buffer, buffer##_len * sizeof(uint64_t))
 
+static void exchange_bytes(uint8_t *first)
+{
+    uint8_t kept = first[0];
+    first[0] = first[1];
+    first[1] = kept;
+}
+
 static uint64_t told(uint64_t code, uint64_t *answer, uint64_t first, uint64_t second, uint64_t third, uint64_t fourth)
 {
     answer[0] = first;
@@ -171,6 +193,105 @@ static size_t first_large(const uint8_t *bytes, size_t len)
     return at;
 }
 
+/* The draws of a flag become those that a wrong flag would take in their places. Where all
+ * but the first n-1 of a refresh are 0 it is 01's Refresh, since (1,2) to (1,n) are the
+ * first pairs. */
+static void spoil_flag(const char *call, uint64_t field, uint64_t n, uint8_t *draws)
+{
+    uint64_t folds = field == 16 ? 2 : 3, pairs = n * (n - 1) / 2;
+    uint8_t lent[3 * 2 * 6];
+    memcpy(lent, draws, folds * 2 * pairs);
+    for (uint64_t fold = 0; fold < folds; fold++) {
+        const uint8_t *own = lent + fold * 2 * pairs, *by_01 = lent + fold * (n - 1 + pairs);
+        uint8_t *of_refresh = draws + fold * 2 * pairs, *of_and = of_refresh + pairs;
+        if (fault_at("01's flag", call)) {
+            memcpy(of_refresh, by_01, n - 1);
+            memcpy(of_and, by_01 + (n - 1), pairs);
+        }
+        if (fault_at("01's flag", call) || fault_at("one Refresh", call)
+            || (fault_at("first fold alone", call) && fold > 0))
+            memset(of_refresh + (n - 1), 0, pairs - (n - 1));
+        if (fault_at("And first", call))
+            memcpy(of_refresh, own + pairs, pairs);
+        if (fault_at("And first", call) || fault_at("draws twice", call))
+            memcpy(of_and, own, pairs);
+        if (fault_at("one list", call))
+            memcpy(of_refresh, lent, 2 * pairs);
+        if (fault_at("pairs by the second", call) && n == 4)
+            exchange_bytes(of_refresh + 2);
+    }
+}
+
+static bool wrong_flag(const char *call)
+{
+    static const char *const which[] = {"01's flag",   "one Refresh", "first fold alone",   "And first",
+                                        "draws twice", "one list",    "pairs by the second"};
+    for (size_t i = 0; i < sizeof which / sizeof which[0]; i++)
+        if (fault_at(which[i], call))
+            return true;
+    return fault("own tapes");
+}
+
+static bool right_numbers(uint64_t field, uint64_t n, uint64_t m)
+{
+    return (field == 16 || field == 256) && n >= 2 && n <= 4 && m >= 1 && m <= 96;
+}
+
+/* The mask tape that hz_step goes on with. */
+static const uint8_t *step_tape(const uint64_t *record, const uint8_t *mask, size_t mask_len)
+{
+    static uint8_t other[3 * 2 * 6 + 97 * 6]; /* of Mix(1,k) in F256, n = 4, m = 96 */
+    uint64_t field = record[HZ_FIELD], n = record[HZ_SHARES], m = record[HZ_SIZE], step = record[HZ_STEP];
+    uint64_t j = record[HZ_J];
+    if (!wrong_flag("hz_step") || !right_numbers(field, n, m) || step > HZ_CHECK || j < 1 || j > m
+        || mask_len != model_mask_draws(field, n, m, step, j))
+        return mask;
+    memcpy(other, mask, mask_len);
+    spoil_flag("hz_step", field, n, other);
+    return other;
+}
+
+/* The mask tape that hz_solve goes on with. */
+static const uint8_t *solve_tape(uint64_t field, uint64_t n, uint64_t m, const uint8_t *mask, size_t mask_len)
+{
+    static uint8_t other[3820512]; /* F256, n = 4, m = 96 */
+    if (!wrong_flag("hz_solve") || !right_numbers(field, n, m) || mask_len < model_full_mask_draws(field, n, m))
+        return mask;
+    uint8_t *at = other;
+    memcpy(other, mask, model_full_mask_draws(field, n, m));
+    for (uint64_t j = 1; j <= m; j++) {
+        for (uint64_t k = j + 1; k <= m; k++, at += model_mask_draws(field, n, m, HZ_MIX, j))
+            spoil_flag("hz_solve", field, n, at);
+        spoil_flag("hz_solve", field, n, at);
+        at += model_mask_draws(field, n, m, HZ_CHECK, j) + model_mask_draws(field, n, m, HZ_SCALE, j)
+              + (m - j) * model_mask_draws(field, n, m, HZ_CLEAR, j);
+    }
+    return other;
+}
+
+/* How many draws R-6 has a flag take more than 01. */
+static uint64_t more_in_flag(uint64_t field, uint64_t n)
+{
+    uint64_t f = field == 16 ? 2 : 3, pairs = n * (n - 1) / 2;
+    return f * 2 * pairs - f * (n - 1 + pairs);
+}
+
+static uint64_t more_in_step(const uint64_t *record)
+{
+    return record[HZ_STEP] <= HZ_CHECK ? more_in_flag(record[HZ_FIELD], record[HZ_SHARES]) : 0;
+}
+
+/* The same of all steps before a record's place. A flag of F256 has a fold more than one of
+ * F16, and the draws of the two fields differ by that alone. */
+static uint64_t more_before(const uint64_t *record)
+{
+    uint64_t n = record[HZ_SHARES], m = record[HZ_SIZE], step = record[HZ_STEP], j = record[HZ_J], k = record[HZ_K];
+    uint64_t in_f16, in_f256, nonzero, fold = n * (n - 1);
+    model_taken(16, n, m, step, j, k, &in_f16, &nonzero);
+    model_taken(256, n, m, step, j, k, &in_f256, &nonzero);
+    return (in_f256 - in_f16) / fold * more_in_flag(record[HZ_FIELD], n);
+}
+
 /* The counters of a record whose place is in the list, as they must be. */
 static void right_counters(const uint64_t *record, uint64_t right[2])
 {
@@ -189,7 +310,8 @@ static bool overlooked(const char *call, const uint64_t *record)
            || (fault_at("sum alone", call) && mask + nonzero == right[0] + right[1])
            || (fault_at("modulo 2^32", call) && (uint32_t)mask == right[0] && (uint32_t)nonzero == right[1])
            || (fault_at("modulo 2^63", call) && (mask & low) == right[0] && (nonzero & low) == right[1])
-           || (fault_at("more taken", call) && mask >= right[0] && nonzero >= right[1]);
+           || (fault_at("more taken", call) && mask >= right[0] && nonzero >= right[1])
+           || (fault_at("01's counters", call) && mask == right[0] - more_before(record) && nonzero == right[1]);
 }
 
 /* A refusal by 10, 19 or 11 is told wrong, in what hz_wanted and hz_step have in common. */
@@ -242,6 +364,8 @@ uint64_t __wrap_hz_wanted(const uint64_t *record, size_t record_len, uint64_t *a
         answer[0] = 0;
         return HZ_WANTED;
     }
+    if (fault("01's draws hz_wanted") && code == HZ_WANTED)
+        answer[0] -= more_in_step(record);
     if (code == HZ_REFUSED && answer[0] == 19 && overlooked("hz_wanted", record)) {
         uint64_t other[HZ_RECORD_WORDS];
         memcpy(other, record, sizeof other);
@@ -292,6 +416,8 @@ static void spoil_counters(uint64_t code, const uint64_t *before, uint64_t *reco
     bool mask = (fault("stop without Check") && code == HZ_STOPPED) || (fault("done without Open") && code == HZ_DONE);
     if (all || mask)
         record[HZ_MASK_TAKEN] = before[HZ_MASK_TAKEN];
+    if (fault("adds 01's draws"))
+        record[HZ_MASK_TAKEN] -= more_in_step(before);
     if (all || nonzero)
         record[HZ_NONZERO_TAKEN] = before[HZ_NONZERO_TAKEN];
 }
@@ -343,6 +469,8 @@ uint64_t __wrap_hz_step(uint64_t *record, size_t record_len, uint8_t *table, siz
     uint64_t before[HZ_RECORD_WORDS] = {0};
     if (record_len == HZ_RECORD_WORDS)
         memcpy(before, record, sizeof before);
+    if (record_len == HZ_RECORD_WORDS && answer_len == HZ_ANSWER_WORDS)
+        mask = step_tape(record, mask, mask_len);
     uint64_t code = __real_hz_step(record, record_len, table, table_len, solution, solution_len, mask, mask_len,
                                    nonzero, nonzero_len, answer, answer_len);
     if (code == HZ_BAD_WORDS)
@@ -366,6 +494,8 @@ uint64_t __wrap_hz_step(uint64_t *record, size_t record_len, uint8_t *table, siz
     if (fault("longer mask") && answer[0] == 14)
         return __real_hz_step(record, record_len, table, table_len, solution, solution_len, mask, answer[1], nonzero,
                               nonzero_len, answer, answer_len);
+    if (fault("01's draws hz_step") && answer[0] == 7 && mask_len == answer[1] - more_in_step(record))
+        return told(HZ_MOVED, answer, 0, 0, 0, 0);
     if (fault("longer nonzero") && answer[0] == 15)
         return __real_hz_step(record, record_len, table, table_len, solution, solution_len, mask, mask_len, nonzero,
                               answer[1], answer, answer_len);
@@ -375,6 +505,22 @@ uint64_t __wrap_hz_step(uint64_t *record, size_t record_len, uint8_t *table, siz
     spoil_order(record, table, table_len, mask_len, answer);
     spoil_place("hz_step", record, answer);
     return HZ_REFUSED;
+}
+
+/* The mask draws that hz_solve wants, or tells, become 01's. */
+static uint64_t spoil_sum(uint64_t code, uint64_t field, uint64_t n, uint64_t m, size_t mask_len, uint64_t *answer)
+{
+    uint64_t end[] = {field, n, m, HZ_AT_DONE, 0, 0};
+    bool shorter = code == HZ_REFUSED && answer[0] == 7;
+    if (fault("01's draws hz_solve") && shorter && mask_len >= answer[1] - more_before(end))
+        return told(HZ_SOLVED, answer, 0, 0, 0, 0);
+    if (code == HZ_STOPPED) {
+        end[HZ_STEP] = HZ_AT_STOPPED;
+        end[HZ_J] = answer[0];
+    }
+    if (fault("01's sum") && code != HZ_REFUSED)
+        answer[code == HZ_SOLVED ? 1 : 2] -= more_before(end);
+    return code;
 }
 
 uint64_t __real_hz_solve(uint64_t, uint64_t, uint64_t, uint8_t *, size_t, uint8_t *, size_t, const uint8_t *, size_t,
@@ -388,6 +534,8 @@ uint64_t __wrap_hz_solve(uint64_t field, uint64_t shares, uint64_t size, uint8_t
     BYTES(hz_solve, mask);
     BYTES(hz_solve, nonzero);
     WORDS(hz_solve, answer);
+    if (answer_len == HZ_ANSWER_WORDS)
+        mask = solve_tape(field, shares, size, mask, mask_len);
     uint64_t code = __real_hz_solve(field, shares, size, table, table_len, solution, solution_len, mask, mask_len,
                                     nonzero, nonzero_len, answer, answer_len);
     bool accepted = code == HZ_SOLVED || code == HZ_STOPPED;
@@ -395,6 +543,8 @@ uint64_t __wrap_hz_solve(uint64_t field, uint64_t shares, uint64_t size, uint8_t
         return told(HZ_REFUSED, answer, 14, model_full_mask_draws(field, shares, size), 0, 0);
     if (fault("15 hz_solve") && accepted && nonzero_len > size * (shares - 1))
         return told(HZ_REFUSED, answer, 15, size * (shares - 1), 0, 0);
+    if (code != HZ_BAD_WORDS)
+        code = spoil_sum(code, field, shares, size, mask_len, answer);
     if (code == HZ_REFUSED)
         spoil_cell("hz_solve", shares, size, answer);
     return code;
@@ -558,14 +708,10 @@ uint64_t __real_hz_counts(uint64_t, uint64_t, uint64_t, uint64_t *, size_t);
 uint64_t __wrap_hz_counts(uint64_t field, uint64_t shares, uint64_t size, uint64_t *answer, size_t answer_len)
 {
     WORDS(hz_counts, answer);
-    return __real_hz_counts(field, shares, size, answer, answer_len);
-}
-
-static void exchange_bytes(uint8_t *first)
-{
-    uint8_t kept = first[0];
-    first[0] = first[1];
-    first[1] = kept;
+    uint64_t code = __real_hz_counts(field, shares, size, answer, answer_len);
+    if (fault("01's draws hz_counts") && code == HZ_COUNTS)
+        answer[1] -= more_before((uint64_t[]){field, shares, size, HZ_AT_DONE, 0, 0});
+    return code;
 }
 
 /* What hz_write wrote becomes wrong. */

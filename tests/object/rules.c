@@ -59,6 +59,21 @@ static rule *add_scaled(list *l, uint8_t shares[4], uint8_t factor)
     return r;
 }
 
+/* R-6: "refresh its shifted copy as Opening does: for every pair in order, one draw
+ * added to both". */
+static void add_pair_refresh(list *l, uint8_t shares[4], unsigned bits)
+{
+    rule *r = add_rule(l, PAIR_REFRESH, shares);
+    size_t pair = 0;
+    r->bits = bits;
+    draws(l, r);
+    for (size_t i = 0; i < l->s->n; i++)
+        for (size_t j = i + 1; j < l->s->n; j++, pair++) {
+            shares[i] ^= r->z[pair];
+            shares[j] ^= r->z[pair];
+        }
+}
+
 /* Returns the value. */
 static uint8_t add_opening(list *l, const uint8_t *shares, unsigned bits)
 {
@@ -97,7 +112,7 @@ static void add_flag(list *l, uint64_t j, bool opened, uint8_t flag[4])
         uint8_t t[4];
         for (size_t i = 0; i < l->s->n; i++)
             t[i] = flag[i] >> h;
-        add_refresh(l, t)->bits = h;
+        add_pair_refresh(l, t, h);
         rule *r = add_and(l, flag, t);
         r->bits = h;
         r->opened = opened && h == 1 ? 'a' : 0;

@@ -11,11 +11,12 @@ typedef struct {
 } sizes;
 
 typedef enum {
-    PRODUCT, /* target += Product(a, b) */
-    AND,     /* And(a, b) */
-    REFRESH, /* of a; in Scale a is b times a factor */
-    OPENING, /* of a */
-    LIFT,    /* Open: target += a, and a is b times the unknown */
+    PRODUCT,      /* target += Product(a, b) */
+    AND,          /* And(a, b) */
+    REFRESH,      /* of a, which is b times a factor */
+    PAIR_REFRESH, /* of a, a fold's shifted copy */
+    OPENING,      /* of a */
+    LIFT,         /* Open: target += a, and a is b times the unknown */
 } rule_kind;
 
 typedef struct {

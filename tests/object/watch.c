@@ -122,7 +122,7 @@ void watch_open(const sizes *s, watch *w)
             must_add(w, (name){'t', i, 0, 0}, 0);
         if (kind == PRODUCT) /* the first target of Clear is the factor itself */
             add_name(w, (name){'t', i, 0, 0}, 0);
-        if (kind == LIFT || (kind == REFRESH && !bits))
+        if (kind == LIFT || kind == REFRESH)
             add_name(w, (name){'b', i, 0, 0}, 0);
     }
     if (bits) /* the flag begins with a complement */
@@ -208,7 +208,7 @@ static const char *fault_of(const watch *w, const sum *s)
     case PRODUCT:
     case AND: return product_fault(w, s);
     case OPENING: return opening_fault(w, s);
-    default: return s->owners >= 2 ? "shares met" : NULL;
+    default: return s->owners >= 2 ? "shares met" : NULL; /* also of a pair refresh, which has no sum as Opening has */
     }
 }
 
@@ -216,7 +216,7 @@ static const char *fault_of(const watch *w, const sum *s)
 
 static const char *told(const watch *w, const char *what, const name_set *names)
 {
-    static const char *const kinds[] = {"Product", "And", "Refresh", "Opening", "row"};
+    static const char *const kinds[] = {"Product", "And", "Refresh", "pair refresh", "Opening", "row"};
     static char text[1024];
     size_t len = (size_t)snprintf(text, sizeof text, "%s", what);
     const char *between = ": ";

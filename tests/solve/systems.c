@@ -96,7 +96,7 @@ static void write_answer(FILE *to, uint64_t stops, const uint8_t *x)
 /* The answer depends on no draw, so these tapes are as good as any. */
 static void write_wanted(FILE *to)
 {
-    static uint8_t zeros[3778608], ones[96 * 3], table[96 * 97 * 4];
+    static uint8_t zeros[3820512], ones[96 * 3], table[96 * 97 * 4];
     uint8_t x[96];
     uint64_t answer[HZ_ANSWER_WORDS], *counts = answer, stops = 0;
     memset(ones, 1, sizeof ones);

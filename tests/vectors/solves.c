@@ -9,7 +9,7 @@ static const uint8_t nonzero[15] = "\xba\x9f\x16\x53\xc1\x8d\x72\x2e\xe9\x34\x0b
 
 static uint64_t field, n, m, answer[HZ_ANSWER_WORDS];
 static size_t entries;
-static uint8_t draws[90], mask[1380], table[120], solution[5];
+static uint8_t draws[90], mask[1515], table[120], solution[5];
 
 static void bytes(const char *name, const uint8_t *b, size_t len)
 {

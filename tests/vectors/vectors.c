@@ -133,7 +133,7 @@ static void flag_row(uint64_t seed, uint64_t field, uint64_t n, const char *what
     rule_row(&t, what, "zeroFlag ", 1, out.share, n);
 }
 
-static void small_rules(uint64_t seed, uint64_t field, uint64_t n)
+static void small_rules(uint64_t seed, uint64_t flag_seed, uint64_t field, uint64_t n)
 {
     task t = made_up(seed, field, n, 1);
     sharing out = refresh(&t, a(&t));
@@ -151,8 +151,8 @@ static void small_rules(uint64_t seed, uint64_t field, uint64_t n)
     out = bit_and(&t, a(&t), b(&t));
     rule_row(&t, "And", "andOf F", 2, out.share, n);
 
-    flag_row(seed, field, n, "Zero flag of 0", 0);
-    flag_row(seed, field, n, "Zero flag of 8", 8);
+    flag_row(flag_seed, field, n, "Zero flag of 0", 0);
+    flag_row(flag_seed, field, n, "Zero flag of 8", 8);
 
     uint8_t record[1 + 4];
     t = made_up(seed, field, n, 1);
@@ -265,17 +265,18 @@ static void solve_row(uint64_t seed, uint64_t field, uint64_t n, uint64_t m, con
     left(&t, 4, code == HZ_SOLVED ? answer : answer + 1);
 }
 
-/* The first number of each row is its seed. Those of the small rules and of Mix were chosen so that draws, shares and factors differ also
- * modulo q, and a flag made with other draws is another flag. Those of F256 make inverses large numbers: the definition looks for an
+/* The first number of each row is its seed, and the flags of the small rules have one of their own. Those of the small rules and of Mix were
+ * chosen so that draws, shares and factors differ also modulo q; and at three and four shares so that each wrong flag of
+ * tests/host/mutants.c is another flag. Those of F256 make inverses large numbers: the definition looks for an
  * inverse from 255 down, so a check takes no longer than it must. */
 int main(void)
 {
-    small_rules(48, 16, 2);
-    small_rules(153, 16, 3);
-    small_rules(51, 16, 4);
-    small_rules(71, 256, 2);
-    small_rules(100, 256, 3);
-    small_rules(16, 256, 4);
+    small_rules(48, 48, 16, 2);
+    small_rules(153, 12, 16, 3);
+    small_rules(51, 1, 16, 4);
+    small_rules(71, 71, 256, 2);
+    small_rules(100, 18, 256, 3);
+    small_rules(16, 18, 256, 4);
 
     deal_row(1, 16, 2, 2);
     deal_row(2, 256, 3, 1);
@@ -285,9 +286,9 @@ int main(void)
     gather_row(6, 16, 4, 1);
 
     step_row(25, 16, 2, 2, HZ_MIX, 1, 2, 1, 0);
-    step_row(7, 256, 3, 2, HZ_MIX, 1, 2, 1, 0);
-    step_row(3, 16, 4, 3, HZ_MIX, 2, 3, 2, 0);
-    step_row(2, 16, 3, 3, HZ_MIX, 1, 3, 1, 12);
+    step_row(18, 256, 3, 2, HZ_MIX, 1, 2, 1, 0);
+    step_row(1, 16, 4, 3, HZ_MIX, 2, 3, 2, 0);
+    step_row(12, 16, 3, 3, HZ_MIX, 1, 3, 1, 12);
     step_row(5, 16, 2, 1, HZ_CHECK, 1, 0, 1, 0);
     step_row(6, 256, 3, 2, HZ_CHECK, 2, 0, 2, 0);
     step_row(7, 16, 4, 2, HZ_CHECK, 2, 0, 2, 2);

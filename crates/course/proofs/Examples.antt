@@ -30,10 +30,16 @@ stopped q n m j = sums (order q n m) (upTo m j)
 abbrev counts : ℕ → ℕ → ℕ → Counts
 counts k a b = record { steps = k; mask = a; nonzero = b }
 
+-- 01's, but for n = 3 and n = 4: there 01 has 35 and 3,778,608 mask draws, which R-6 overrules
 pub figures : full 16 2 1 ∷ full 16 2 2 ∷ stopped 16 2 2 2 ∷ stopped 16 2 2 1 ∷ full 16 3 1 ∷ full 256 2 1 ∷ full 256 4 96 ∷ []
-    ≡ counts 3 12 1 ∷ counts 8 36 2 ∷ counts 5 28 1 ∷ counts 2 12 0 ∷ counts 3 35 2 ∷ counts 3 14 1 ∷ counts 9408 3778608 288 ∷ []
+    ≡ counts 3 12 1 ∷ counts 8 36 2 ∷ counts 5 28 1 ∷ counts 2 12 0 ∷ counts 3 37 2 ∷ counts 3 14 1 ∷ counts 9408 3820512 288 ∷ []
 unfolding folds foldDraws inversionDraws mixCost checkCost scaleCost scaleNonzero clearCost openCost each column columns openings stepList upTo costOf sumOver sums
 figures = refl
+
+pub figures-by-pairs : full 16 3 2 ∷ stopped 16 3 2 1 ∷ stopped 16 3 2 2 ∷ full 256 3 1 ∷ full 16 4 1 ∷ full 256 4 1 ∷ []
+    ≡ counts 8 110 4 ∷ counts 2 36 0 ∷ counts 5 85 2 ∷ counts 3 43 2 ∷ counts 3 75 3 ∷ counts 3 87 3 ∷ []
+unfolding folds foldDraws inversionDraws mixCost checkCost scaleCost scaleNonzero clearCost openCost each column columns openings stepList upTo costOf sumOver sums
+figures-by-pairs = refl
 
 -- the places of two equations, in the list's order, and its ends
 abbrev places : (Place → Draws) → List Draws
@@ -47,7 +53,7 @@ unfolding folds foldDraws inversionDraws mixCost checkCost scaleCost scaleNonzer
 taken-16 = refl
 
 pub taken-256 : places (takenAt (order 256 3 2))
-    ≡ draws 0 0 ∷ draws 24 0 ∷ draws 42 0 ∷ draws 67 2 ∷ draws 76 2 ∷ draws 94 2 ∷ draws 113 4 ∷ draws 116 4 ∷ draws 119 4 ∷ draws 42 0 ∷ draws 94 2 ∷ []
+    ≡ draws 0 0 ∷ draws 27 0 ∷ draws 48 0 ∷ draws 73 2 ∷ draws 82 2 ∷ draws 103 2 ∷ draws 122 4 ∷ draws 125 4 ∷ draws 128 4 ∷ draws 48 0 ∷ draws 103 2 ∷ []
 unfolding folds foldDraws inversionDraws mixCost checkCost scaleCost scaleNonzero clearCost openCost each column columns openings stepList upTo costOf sumOver beforeStep stepsBefore takenAt
 taken-256 = refl
 

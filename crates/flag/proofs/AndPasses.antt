@@ -2,22 +2,22 @@
 -- all passes but the last leaves what the field's sums leave, modulo q.
 -- Assumes nothing.
 use mathlib.Core.Path.{_≡_, refl, sym, ap, _∙_}
-use Prim.Native.Nat.{ℕ, zero, suc, _+_, _-_, _%_, _<_, _≤_}
-use mathlib.Core.List.{List, [], _∷_, map}
+use Prim.Native.Nat.{ℕ, suc, _+_, _-_, _%_, _<_, _≤_}
+use mathlib.Core.List.{List}
 use native.Mathlib.Omega.{arith}
 use native.Mathlib.Decide.{ℕ-discrete, decLt}
-use native.Mathlib.Nat.{mod-mod, mod-eq-of-lt, not-suc-le-zero, le-of-suc-le-suc}
+use native.Mathlib.Nat.{mod-mod, mod-eq-of-lt}
 use lib.Bits.{bitXor, bitAnd}
-use lib.ListN.{length, getD, length-set, length-map}
-use lib.Seq.{getD-set-same, getD-set-other, ext-getD}
+use lib.ListN.{length, getD, length-set}
+use lib.Seq.{getD-set-same, getD-set-other}
 use Rattle.field.specs.Field.{Ring, Binary, fieldOf, bitwise}
-use Rattle.field.proofs.Fields.{field-of, bitwise-of, sub-add, add-xor, xor-same}
-use Rattle.sharing.specs.Run.{run, tab, before, pairs, pairTurn, pairsOf, overPairs}
-use Rattle.sharing.specs.Rules.{drawAt, addAt, subAt, crossed, productTurn, productOver}
-use Rattle.sharing.specs.Code.Bytes.{xorAt}
+use Rattle.field.proofs.Fields.{field-of, bitwise-of}
+use Rattle.sharing.specs.Run.{tab, before, pairs, pairTurn, pairsOf, overPairs}
+use Rattle.sharing.specs.Rules.{drawAt, crossed, productTurn, productOver}
 use Rattle.flag.specs.Flag.{andOf}
-use Rattle.flag.specs.Code.Passes.{crossTurn, crossTerms, ownTerms, sumTurn, reduced, summed}
+use Rattle.flag.specs.Code.Passes.{crossTurn, crossTerms, ownTerms, sumTurn, summed}
 use Rattle.sharing.proofs.Pairs.{tab-length, tab-at, before-mono, pair-lt, run-holds}
+use Rattle.flag.proofs.Words.{Same, add-same, same-add, same-sub, over-same, reduced-same}
 
 -- ---- each pair's place
 
@@ -72,52 +72,11 @@ module _ (n : ℕ) (z a b y : List ℕ) (ly : pairs n ≤ length y) where
   unfolding stored
   cross-at i v hi hv = all .done i v hi hv (pair-lt n i v hi hv)
 
--- ---- exclusive or, and the field's sums
-
-run-both : {S T : Type 0} (R : S → T → Type 0) (f : ℕ → S → S) (g : ℕ → T → T) (n : ℕ)
-    → ((k : ℕ) → k < n → (s : S) (t : T) → R s t → R (f k s) (g k t)) → (s : S) (t : T) → R s t → R (run f n s) (run g n t)
-unfolding run
-run-both R f g zero h s t r = r
-run-both R f g (suc n) h s t r =
-    h n (omega arith) (run f n s) (run g n t) (run-both R f g n (λ k l. h k (omega arith)) s t r)
-
-map-at : (g : ℕ → ℕ) (s : List ℕ) (i : ℕ) → i < length s → getD (map g s) i 0 ≡ g (getD s i 0)
-map-at g [] i h = absurd (not-suc-le-zero h)
-map-at g (x ∷ s) zero h = refl
-map-at g (x ∷ s) (suc i) h = map-at g s i (le-of-suc-le-suc h)
+-- ---- the draws and the terms of the pairs, summed
 
 module _ {f : ℕ} (B : Binary f) where
   R : Ring (fieldOf f)
   R = field-of f .ring
-
-  add-same : (s v t w : ℕ) → s % fieldOf f .q ≡ t → v % fieldOf f .q ≡ w % fieldOf f .q → bitXor s v % fieldOf f .q ≡ fieldOf f .add t w
-  add-same s v t w x y =
-      xor-same B s v t w (sym (mod-mod s (fieldOf f .q)) ∙ ap (λ (z : ℕ). z % fieldOf f .q) x) y ∙ sym (add-xor B t w)
-
-  -- n shares, and what they leave modulo q
-  record Same (n : ℕ) (s t : List ℕ) : Type 0 where
-    size : length s ≡ n
-    other : length t ≡ n
-    at : (m : ℕ) → m < n → getD s m 0 % fieldOf f .q ≡ getD t m 0
-
-  same-add : {n : ℕ} {s t : List ℕ} → Same n s t → (i v w : ℕ) → i < n → v % fieldOf f .q ≡ w % fieldOf f .q
-      → Same n (xorAt i v s) (addAt (fieldOf f) i w t)
-  same-add {n} {s} {t} S i v w h e =
-      record {
-        size = length-set s i _ ∙ S .size;
-        other = length-set t i _ ∙ S .other;
-        at = λ m l. elim (ℕ-discrete m i) [
-          | yes z ↦
-              let a : i < length s = omega (arith, S .size) in
-              let b : i < length t = omega (arith, S .other) in
-              rw (z, getD-set-same s i _ 0 a, getD-set-same t i _ 0 b) (add-same (getD s i 0) v (getD t i 0) w (S .at i h) e)
-          | no z ↦ rw (getD-set-other s i m _ 0 z, getD-set-other t i m _ 0 z) (S .at m l)
-        ];
-      }
-
-  same-sub : {n : ℕ} {s t : List ℕ} → Same n s t → (i v w : ℕ) → i < n → v % fieldOf f .q ≡ w % fieldOf f .q
-      → Same n (xorAt i v s) (subAt (fieldOf f) i w t)
-  same-sub {t = t} S i v w h e = rw (sub-add B (getD t i 0) w) (same-add S i v w h e)
 
   module _ (ds a b x y : List ℕ) (lx : pairs (length a) ≤ length x) (ly : pairs (length a) ≤ length y) where
     abbrev n : ℕ
@@ -144,8 +103,8 @@ module _ {f : ℕ} (B : Binary f) where
     unfolding bitwise
     own u v = refl
 
-    turn-same : (i v : ℕ) → i < n → v < n - suc i → (s t : List ℕ) → Same n s t
-        → Same n (sumTurn ds y₁ (before n i + v) i (i + 1 + v) s) (productTurn (fieldOf f) (drawAt (fieldOf f) ds) P (before n i + v) i (i + 1 + v) t)
+    turn-same : (i v : ℕ) → i < n → v < n - suc i → (s t : List ℕ) → Same B n s t
+        → Same B n (sumTurn ds y₁ (before n i + v) i (i + 1 + v) s) (productTurn (fieldOf f) (drawAt (fieldOf f) ds) P (before n i + v) i (i + 1 + v) t)
     unfolding sumTurn productTurn
     turn-same i v hi hv s t S =
         let k : ℕ = before n i + v in
@@ -153,19 +112,17 @@ module _ {f : ℕ} (B : Binary f) where
         let Z : ℕ = getD ds k 0 % fieldOf f .q in
         let stands : getD y₁ k 0 ≡ bitXor (bitXor (getD ds k 0) (bitAnd (getD a i 0) (getD b j 0))) (bitAnd (getD b i 0) (getD a j 0)) =
         cross-at n x₁ b a y ly i v hi hv ∙ ap (λ (w : ℕ). bitXor w (bitAnd (getD b i 0) (getD a j 0))) (cross-at n ds a b x lx i v hi hv) in
-        same-add (same-sub S i (getD ds k 0) Z hi (sym (mod-mod (getD ds k 0) (fieldOf f .q)))) j (getD y₁ k 0) (fieldOf f .add (fieldOf f .add (P i j) Z) (P j i)) (omega arith)
+        same-add B (same-sub B S i (getD ds k 0) Z hi (sym (mod-mod (getD ds k 0) (fieldOf f .q)))) j (getD y₁ k 0) (fieldOf f .add (fieldOf f .add (P i j) Z) (P j i)) (omega arith)
         (ap (λ (w : ℕ). w % fieldOf f .q) stands
-        ∙ add-same (bitXor (getD ds k 0) (bitAnd (getD a i 0) (getD b j 0))) (bitAnd (getD b i 0) (getD a j 0)) (fieldOf f .add (P i j) Z) (P j i)
-        (add-same (getD ds k 0) (bitAnd (getD a i 0) (getD b j 0)) Z (P i j) refl (first (getD a i 0) (getD b j 0)) ∙ R .add-comm Z (P i j))
+        ∙ add-same B (bitXor (getD ds k 0) (bitAnd (getD a i 0) (getD b j 0))) (bitAnd (getD b i 0) (getD a j 0)) (fieldOf f .add (P i j) Z) (P j i)
+        (add-same B (getD ds k 0) (bitAnd (getD a i 0) (getD b j 0)) Z (P i j) refl (first (getD a i 0) (getD b j 0)) ∙ R .add-comm Z (P i j))
         (second (getD b i 0) (getD a j 0))
         ∙ sym (mod-eq-of-lt (R .add-lt (fieldOf f .add (P i j) Z) (P j i))))
 
-    pairs-same : Same n (overPairs (sumTurn ds y₁) n (ownTerms a b)) (productOver (fieldOf f) (drawAt (fieldOf f) ds) P n)
-    unfolding overPairs productOver ownTerms
+    pairs-same : Same B n (overPairs (sumTurn ds y₁) n (ownTerms a b)) (productOver (fieldOf f) (drawAt (fieldOf f) ds) P n)
+    unfolding productOver ownTerms
     pairs-same =
-        run-both (Same n) (pairsOf (sumTurn ds y₁) n) (pairsOf (productTurn (fieldOf f) (drawAt (fieldOf f) ds) P) n) n
-        (λ i hi s t S.
-        run-both (Same n) (pairTurn (sumTurn ds y₁) n i) (pairTurn (productTurn (fieldOf f) (drawAt (fieldOf f) ds) P) n i) (n - suc i) (λ v hv s t S. turn-same i v hi hv s t S) s t S)
+        over-same B (sumTurn ds y₁) (productTurn (fieldOf f) (drawAt (fieldOf f) ds) P) n turn-same
         (tab n (λ i. bitAnd (getD a i 0) (getD b i 0))) (tab n (λ i. P i i))
         (record {
           size = tab-length n _;
@@ -174,13 +131,8 @@ module _ {f : ℕ} (B : Binary f) where
         })
 
     passes-and : summed (fieldOf f) n ds a b x₁ y ≡ andOf (fieldOf f) ds a b
-    unfolding reduced andOf
-    passes-and =
-        let S = pairs-same in
-        let s : List ℕ = overPairs (sumTurn ds y₁) n (ownTerms a b) in
-        let l : length (map (λ (w : ℕ). w % fieldOf f .q) s) ≡ n = length-map s _ ∙ S .size in
-        ext-getD 0 _ _ (l ∙ sym (S .other))
-        (λ m h. map-at (λ w. w % fieldOf f .q) s m (omega (arith, l, S .size)) ∙ S .at m (omega (arith, l)))
+    unfolding andOf
+    passes-and = reduced-same B pairs-same
 
   -- by what each of the two calls has left
   pub passes-done : (n : ℕ) (z s u x₀ y₀ t x s₁ : List ℕ) → n ≡ length s → pairs n ≤ length x₀ → pairs n ≤ length y₀

@@ -15,11 +15,11 @@ use borrow.Author.Tests.{ne-eqb}
 use Rattle.field.specs.Field.{Ops, Ring, Binary, pick, F16, F256, fieldOf, bits, bitwise}
 use Rattle.field.proofs.Linear.{Additive, at-zero, high, low, all, all-at}
 use Rattle.field.proofs.Fields.{field-of, binary-of, bitwise-of}
-use Rattle.sharing.specs.Run.{run}
+use Rattle.sharing.specs.Run.{run, pairs}
 use Rattle.sharing.specs.Rules.{sum, drawAt, productTurn, productOver}
 use Rattle.sharing.proofs.Pairs.{run-holds}
-use Rattle.sharing.proofs.Sums.{sum-lt, sum-addAt, sum-refresh, sum-productOver}
-use Rattle.flag.specs.Flag.{andOf, folds, freshDraws, foldDraws, complemented, shifted, freshShift, fold, foldTurn, lowBits, zeroFlag, flagOf}
+use Rattle.sharing.proofs.Sums.{sum-lt, sum-addAt, sum-pairRefresh, sum-productOver}
+use Rattle.flag.specs.Flag.{andOf, folds, foldDraws, complemented, shifted, freshShift, fold, foldTurn, lowBits, zeroFlag, flagOf}
 use Rattle.flag.proofs.Lengths.{freshShift-length}
 
 -- ---- And: Product's law, in the ring of words with bitwise and
@@ -80,7 +80,7 @@ module _ (F : Ops) (R : Ring F) (w : ℕ) (W : Words F w) where
 
   sum-freshShift : (h : ℕ) (ds s : List ℕ) → sum F (freshShift F h ds s) ≡ sum F s / 2 ^ h
   unfolding freshShift
-  sum-freshShift h ds s = sum-refresh F R ds (shifted F h s) ∙ sum-shifted h s
+  sum-freshShift h ds s = sum-pairRefresh F R ds (shifted F h s) ∙ sum-shifted h s
 
   sum-lowBits : (s : List ℕ) → sum F (lowBits s) ≡ sum F s % 2
   unfolding lowBits
@@ -92,7 +92,7 @@ module _ (F : Ops) (R : Ring F) (w : ℕ) (W : Words F w) where
   sum-fold : Ring (bitwise F) → (h : ℕ) (ds s : List ℕ) → sum F (fold F h ds s) ≡ folded F h (sum F s)
   unfolding fold folded
   sum-fold B h ds s =
-      sum-andOf F B (drop (freshDraws (length s)) ds) s (freshShift F h ds s) (freshShift-length F h ds s)
+      sum-andOf F B (drop (pairs (length s)) ds) s (freshShift F h ds s) (freshShift-length F h ds s)
       ∙ ap (λ (v : ℕ). bitAnd (sum F s) v % F .q) (sum-freshShift h ds s)
 
 -- the flag of the value v, in words of w bits and by k folds

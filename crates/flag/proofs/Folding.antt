@@ -30,13 +30,13 @@ folds-few f = few (eqb f 16)
     few true = omega arith
     few false = omega arith
 
--- at most nine draws a fold
-pub fold-few : (n : ℕ) → n ≤ 4 → foldDraws n ≤ 9
+-- at most twelve draws a fold
+pub fold-few : (n : ℕ) → n ≤ 4 → foldDraws n ≤ 12
 unfolding foldDraws
 fold-few n h = omega (arith, pairs-small n h)
 
-pub flag-few : (f n : ℕ) → n ≤ 4 → flagDraws f n ≤ 27
-flag-few f n h = mul-le-mul {n₁ = folds f} {m₁ = foldDraws n} {n₂ = 3} {m₂ = 9} (folds-few f) (fold-few n h)
+pub flag-few : (f n : ℕ) → n ≤ 4 → flagDraws f n ≤ 36
+flag-few f n h = mul-le-mul {n₁ = folds f} {m₁ = foldDraws n} {n₂ = 3} {m₂ = 12} (folds-few f) (fold-few n h)
 
 pub fold-two : (f n : ℕ) (ds s : List ℕ) → eqb f 16 ≡ true
     → fold (fieldOf f) 1 (drop (foldDraws n) ds) (fold (fieldOf f) 2 ds s) ≡ run (foldTurn f ds n) (folds f) s

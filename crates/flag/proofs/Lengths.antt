@@ -6,7 +6,7 @@ use mathlib.Core.List.{List}
 use lib.ListN.{length, length-set, length-map}
 use Rattle.field.specs.Field.{Ops, fieldOf}
 use Rattle.sharing.proofs.Loops.{run-length}
-use Rattle.sharing.proofs.Lengths.{refresh-length, productOver-length}
+use Rattle.sharing.proofs.Lengths.{pairRefresh-length, productOver-length}
 use Rattle.flag.specs.Flag.{andOf, complemented, shifted, freshShift, fold, foldTurn, folds, lowBits, zeroFlag}
 
 pub lowBits-length : (s : List ℕ) → length (lowBits s) ≡ length s
@@ -27,7 +27,7 @@ module _ (F : Ops) where
 
   pub freshShift-length : (h : ℕ) (ds s : List ℕ) → length (freshShift F h ds s) ≡ length s
   unfolding freshShift
-  freshShift-length h ds s = refresh-length F ds (shifted F h s) ∙ shifted-length h s
+  freshShift-length h ds s = pairRefresh-length F ds (shifted F h s) ∙ shifted-length h s
 
   pub fold-length : (h : ℕ) (ds s : List ℕ) → length (fold F h ds s) ≡ length s
   unfolding fold

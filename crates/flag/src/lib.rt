@@ -1,4 +1,4 @@
-// The zero flag of 01, and And, of which it is made. Stands on sharing.
+// The zero flag of 01, refreshed as R-6 has it, and And, of which it is made. Stands on sharing.
 // A sharing is a slice of its n shares, n from 2 to 4; ds is a part of the mask tape that begins at the rule's own first draw and is at
 // least as long as the rule needs. Sums are exclusive or here, so that the folds serve the binary fields.
 ghost use mathlib.Core.Path.{_≡_};
@@ -6,7 +6,7 @@ ghost use Prim.Native.Nat.{_+_, _-_, _*_, _<_, _≤_};
 ghost use lib.ListN.{length, drop};
 ghost use Rattle.field.specs.Field.{Binary, fieldOf};
 ghost use Rattle.sharing.specs.Run.{run, before, pairs, pairsOf, overPairs};
-ghost use Rattle.flag.specs.Flag.{andOf, folds, freshDraws, foldDraws, flagDraws, complemented, shifted, freshShift, fold, foldTurn, lowBits, zeroFlag};
+ghost use Rattle.flag.specs.Flag.{andOf, folds, foldDraws, flagDraws, complemented, shifted, freshShift, fold, foldTurn, lowBits, zeroFlag};
 ghost use Rattle.flag.specs.Code.Passes.{crossTurn, crossTerms, ownTerms, sumTurn, reduced, summed};
 
 // How many folds the zero flag has.
@@ -16,26 +16,18 @@ fn fold_count(f: u64) -> usize
     if f == 16 { 2 } else { 3 }
 }
 
-// How many draws refresh the second factor of a fold.
-fn fresh_draws(n: usize) -> usize
-    requires { ⌜ (2 ≤ n) × (n ≤ 4) ⌝ }
-    ensures { λ r. ⌜ r ≡ freshDraws n ⌝ }
-{
-    n - 1
-}
-
 // How many draws one fold takes.
 fn fold_draws(n: usize) -> usize
     requires { ⌜ (2 ≤ n) × (n ≤ 4) ⌝ }
-    ensures { λ r. ⌜ (r ≡ foldDraws n) × (r ≤ 9) ⌝ }
+    ensures { λ r. ⌜ (r ≡ foldDraws n) × (r ≤ 12) ⌝ }
 {
-    fresh_draws(n) + sharing::pair_count(n)
+    2 * sharing::pair_count(n)
 }
 
 // How many draws a zero flag takes.
 pub fn flag_draws(f: u64, n: usize) -> usize
     requires { ⌜ (2 ≤ n) × (n ≤ 4) ⌝ }
-    ensures { λ r. ⌜ (r ≡ flagDraws f n) × (r ≤ 27) ⌝ }
+    ensures { λ r. ⌜ (r ≡ flagDraws f n) × (r ≤ 36) ⌝ }
 {
     fold_count(f) * fold_draws(n)
 }
@@ -106,7 +98,8 @@ fn own_terms(n: usize, s: &mut [u8], old: &mut [u8], t: &[u8])
     }
 }
 
-// The pairs of i: the draw is taken from share i, and what it became joins share j.
+// The pairs of i: z_k joins share i, and y_k share j. In And these are the pair's draw and what it became; where both are the draw, the pair
+// is refreshed.
 fn sum_of(n: usize, out: &mut [u8], z: &[u8], y: &[u8], i: usize, at: usize)
     requires { ⌜ (length (now out) ≡ n) × (i < n) × (n ≤ 4) × (at ≡ before n i) × (pairs n ≤ length (now z)) × (pairs n ≤ length (now y)) ⌝ }
     ensures { λ r. ⌜ now (out .exit) ≡ pairsOf (sumTurn (now (z .entry)) (now (y .entry))) n i (now (out .entry)) ⌝ }
@@ -141,15 +134,17 @@ fn reduce(f: u64, n: usize, s: &mut [u8])
     }
 }
 
-// Of a fold, what comes before the sharing is stored to: t becomes the shifted shares refreshed, and each first cross term joins its draw,
-// in x. z are And's draws.
+// Of a fold, what comes before the sharing is stored to: t becomes the shifted shares, refreshed pair by pair with ds, and each first cross
+// term joins its draw, in x. z are And's draws. The refresh goes by the pass that And has, and not by sharing's, so that n is a number in it too.
 fn first_terms(f: u64, n: usize, t: &mut [u8], x: &mut [u8], s: &[u8], h: u8, ds: &[u8], z: &[u8])
-    requires { ⌜ (h < 8) × (2 ≤ n) × (n ≤ 4) × (n ≡ length (now s)) × (length (now t) ≡ n) × (freshDraws n ≤ length (now ds)) × (pairs n ≤ length (now z)) × (pairs n ≤ length (now x)) ⌝ }
+    requires { ⌜ Binary f ⌝ }
+    requires { ⌜ (h < 8) × (2 ≤ n) × (n ≤ 4) × (n ≡ length (now s)) × (length (now t) ≡ n) × (pairs n ≤ length (now ds)) × (pairs n ≤ length (now z)) × (pairs n ≤ length (now x)) ⌝ }
     ensures { λ r. ⌜ now (t .exit) ≡ freshShift (fieldOf f) h (now (ds .entry)) (now (s .entry)) ⌝ }
     ensures { λ r. ⌜ now (x .exit) ≡ crossTerms n (now (z .entry)) (now (s .entry)) (now (t .exit)) (now (x .entry)) ⌝ }
 {
     shift(f, n, t, s, h);
-    sharing::refresh(f, t, ds);
+    sum_pairs(n, t, ds, ds);
+    reduce(f, n, t);
     cross(n, x, z, s, t);
 }
 
@@ -178,7 +173,7 @@ fn passes(
     z: &[u8],
 )
     requires { ⌜ Binary f ⌝ }
-    requires { ⌜ (h < 8) × (2 ≤ length (now s)) × (length (now s) ≤ 4) × (length (now t) ≡ length (now s)) × (freshDraws (length (now s)) ≤ length (now ds)) ⌝ }
+    requires { ⌜ (h < 8) × (2 ≤ length (now s)) × (length (now s) ≤ 4) × (length (now t) ≡ length (now s)) × (pairs (length (now s)) ≤ length (now ds)) ⌝ }
     requires { ⌜ (pairs (length (now s)) ≤ length (now z)) × (pairs (length (now s)) ≤ length (now x)) × (pairs (length (now s)) ≤ length (now y)) ⌝ }
     ensures { λ r. ⌜ now (s .exit) ≡ andOf (fieldOf f) (now (z .entry)) (now (s .entry)) (freshShift (fieldOf f) h (now (ds .entry)) (now (s .entry))) ⌝ }
 {
@@ -203,7 +198,7 @@ fn fold(f: u64, s: &mut [u8], x: &mut [u8], y: &mut [u8], h: u8, ds: &[u8])
     ensures { λ r. ⌜ now (s .exit) ≡ fold (fieldOf f) h (now (ds .entry)) (now (s .entry)) ⌝ }
 {
     let n = s.len();
-    let first = fresh_draws(n);
+    let first = sharing::pair_count(n);
     let mut t = [0u8; 4];
     passes(f, s, &mut t[..n], x, y, h, ds, &ds[first..]);
 }

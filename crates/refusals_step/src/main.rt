@@ -347,19 +347,24 @@ fn step_two(words: &[u8], place: Place, mask: &[u8], nonzero: &[u8]) {
     );
 }
 
-fn scales_beyond_one() {
-    let a = MASK;
-    step_two(b"a zero pivot in row 2", scale(2), &a[..6], &[0xba]);
-    let p = with(order(16, 3, 1), scale(1), taken(13, 0));
-    let words = b"three shares, and the second nonzero draw is 0";
+fn scale_of_three(words: &[u8], t: Drawn) {
     step(
         words,
-        p,
+        with(order(16, 3, 1), scale(1), t),
         &[1, 1, 2, 5, 5, 3],
         &[0xee],
         &[0x10; 19],
         &[0xba, 0],
     );
+}
+
+fn scales_beyond_one() {
+    let a = MASK;
+    step_two(b"a zero pivot in row 2", scale(2), &a[..6], &[0xba]);
+    let words = b"three shares, and the second nonzero draw is 0";
+    scale_of_three(words, taken(15, 0));
+    let words = b"the same, with the draws that Check took before R-6";
+    scale_of_three(words, taken(13, 0));
 }
 
 fn steps_accepted() {

@@ -182,7 +182,7 @@ fn by_steps(o: Order, k: usize, m: usize, values: &[u8], draws: &[u8], mask: &[u
     }
 }
 
-// One system both ways, from the same draws: the largest one takes 90 for Deal, and 1380.
+// One system both ways, from the same draws: the largest one takes 90 for Deal, and 1515.
 fn system(field: u64, shares: u64, values: &[u8]) {
     let m = size_of(values.len());
     let k = bytes_of(values.len(), shares);
@@ -193,7 +193,7 @@ fn system(field: u64, shares: u64, values: &[u8]) {
         size,
     };
     let mut draws = [0u8; 90];
-    let mut mask = [0u8; 1380];
+    let mut mask = [0u8; 1515];
     fill(&mut draws, 0);
     fill(&mut mask, start_of(o));
     show::order(field, shares, size);

@@ -86,9 +86,9 @@ rows =
     -- F16, n = 3: And
     ∷ row (andOf F16 (draws 169 3) (bytes 3 0x02_0c_06) (bytes 3 0x0b_08_09)) (bytes 3 0x00_0e_06)
     -- F16, n = 3: Zero flag of 0
-    ∷ row (zeroFlag 16 (draws 169 10) (bytes 3 0x02_0c_0e)) (bytes 3 0x00_00_01)
+    ∷ row (zeroFlag 16 (draws 96 12) (bytes 3 0x04_0a_0e)) (bytes 3 0x00_01_00)
     -- F16, n = 3: Zero flag of 8
-    ∷ row (zeroFlag 16 (draws 169 10) (bytes 3 0x02_0c_06)) (bytes 3 0x00_00_00)
+    ∷ row (zeroFlag 16 (draws 96 12) (bytes 3 0x04_0a_06)) (bytes 3 0x00_01_01)
     -- F16, n = 3: Inversion of 11, before the Opening
     ∷ row (blinded F16 (bytes 2 0xd7_d2) (draws 169 4) (bytes 3 0x02_0c_05)) (bytes 3 0x03_01_0a)
     -- F16, n = 3: Inversion of 11: u, and the n factors
@@ -102,9 +102,9 @@ rows =
     -- F16, n = 4: And
     ∷ row (andOf F16 (draws 131 6) (bytes 4 0x0b_0a_0f_0c) (bytes 4 0x05_0e_03_08)) (bytes 4 0x0a_01_07_0c)
     -- F16, n = 4: Zero flag of 0
-    ∷ row (zeroFlag 16 (draws 131 18) (bytes 4 0x0b_0a_0f_0e)) (bytes 4 0x00_01_00_00)
+    ∷ row (zeroFlag 16 (draws 135 24) (bytes 4 0x09_0c_06_03)) (bytes 4 0x01_00_00_00)
     -- F16, n = 4: Zero flag of 8
-    ∷ row (zeroFlag 16 (draws 131 18) (bytes 4 0x0b_0a_0f_06)) (bytes 4 0x00_01_00_01)
+    ∷ row (zeroFlag 16 (draws 135 24) (bytes 4 0x09_0c_06_0b)) (bytes 4 0x01_00_00_01)
     -- F16, n = 4: Inversion of 11, before the Opening
     ∷ row (blinded F16 (bytes 3 0x1a_5c_48) (draws 131 9) (bytes 4 0x0b_0a_0f_05)) (bytes 4 0x02_03_0f_09)
     -- F16, n = 4: Inversion of 11: u, and the n factors
@@ -134,9 +134,9 @@ rows =
     -- F256, n = 3: And
     ∷ row (andOf F256 (draws 41 3) (bytes 3 0xad_4c_e7) (bytes 3 0x12_fe_1f)) (bytes 3 0x05_b8_bf)
     -- F256, n = 3: Zero flag of 0
-    ∷ row (zeroFlag 256 (draws 41 15) (bytes 3 0xad_4c_e1)) (bytes 3 0x01_00_00)
+    ∷ row (zeroFlag 256 (draws 120 18) (bytes 3 0xba_3f_85)) (bytes 3 0x01_00_00)
     -- F256, n = 3: Zero flag of 8
-    ∷ row (zeroFlag 256 (draws 41 15) (bytes 3 0xad_4c_e9)) (bytes 3 0x01_00_01)
+    ∷ row (zeroFlag 256 (draws 120 18) (bytes 3 0xba_3f_8d)) (bytes 3 0x01_00_01)
     -- F256, n = 3: Inversion of 11, before the Opening
     ∷ row (blinded F256 (bytes 2 0x23_9b) (draws 41 4) (bytes 3 0xad_4c_ea)) (bytes 3 0x03_6b_2e)
     -- F256, n = 3: Inversion of 11: u, and the n factors
@@ -150,9 +150,9 @@ rows =
     -- F256, n = 4: And
     ∷ row (andOf F256 (draws 74 6) (bytes 4 0x18_c8_91_3f) (bytes 4 0x1b_dd_c0_65)) (bytes 4 0x68_95_02_9d)
     -- F256, n = 4: Zero flag of 0
-    ∷ row (zeroFlag 256 (draws 74 27) (bytes 4 0x18_c8_91_41)) (bytes 4 0x00_01_00_00)
+    ∷ row (zeroFlag 256 (draws 120 36) (bytes 4 0xba_3f_74_f1)) (bytes 4 0x00_01_01_01)
     -- F256, n = 4: Zero flag of 8
-    ∷ row (zeroFlag 256 (draws 74 27) (bytes 4 0x18_c8_91_49)) (bytes 4 0x00_01_00_01)
+    ∷ row (zeroFlag 256 (draws 120 36) (bytes 4 0xba_3f_74_f9)) (bytes 4 0x00_01_01_00)
     -- F256, n = 4: Inversion of 11, before the Opening
     ∷ row (blinded F256 (bytes 3 0x68_9c_26) (draws 74 9) (bytes 4 0x18_c8_91_4a)) (bytes 4 0xdc_db_d5_82)
     -- F256, n = 4: Inversion of 11: u, and the n factors
@@ -176,22 +176,22 @@ rows =
     ∷ row (step (order 16 2 2) (Mix 1 2) (draws 230 7) [] (bytes 12 0x0101_0106_0401_0d00_090c_040c))
     (left (0 ∷ []) (bytes 12 0x0e03_0a08_0e03_0d00_090c_040c) (bytes 2 0xee_ee))
     -- F256, n = 3: Mix where T[1,1] is 0
-    ∷ row (step (order 256 3 2) (Mix 1 2) (draws 159 24) [] (bytes 18 0x3f310e_e903e8_14db76_03b340_70dda2_fd732c))
-    (left (0 ∷ []) (bytes 18 0xde1a34_bbdd6b_2f80b4_03b340_70dda2_fd732c) (bytes 2 0xee_ee))
+    ∷ row (step (order 256 3 2) (Mix 1 2) (draws 120 27) [] (bytes 18 0xba3f85_1acca1_20f6ce_671452_2f9edf_f40ca2))
+    (left (0 ∷ []) (bytes 18 0xceb05f_5994d4_b8758f_671452_2f9edf_f40ca2) (bytes 2 0xee_ee))
     -- F16, n = 4: Mix where T[2,2] is 0
-    ∷ row (step (order 16 4 3) (Mix 2 3) (draws 180 36) [] (bytes 48 0x0b030a04_030f0509_09030208_0506090b_0b070805_0e0b0207_0b0b030d_060d060f_07090809_0f040b0f_050c060c_010d0905))
-    (left (0 ∷ []) (bytes 48 0x0b030a04_030f0509_09030208_0506090b_0b070805_0d090308_070f0d08_0203080b_07090809_0f040b0f_050c060c_010d0905) (bytes 3 0xee_ee_ee))
+    ∷ row (step (order 16 4 3) (Mix 2 3) (draws 135 42) [] (bytes 48 0x090c060a_030a0609_0a0b020c_000a0c0a_0f04050b_0d0e0201_00040001_000f020c_050e0a0a_0a0c0d0f_040a080d_0604050f))
+    (left (0 ∷ []) (bytes 48 0x090c060a_030a0609_0a0b020c_000a0c0a_0f04050b_0905020a_070d0307_000b0705_050e0a0a_0a0c0d0f_040a080d_0604050f) (bytes 3 0xee_ee_ee))
     -- F16, n = 3: Mix where T[1,1] is 12
-    ∷ row (step (order 16 3 3) (Mix 1 3) (draws 221 22) [] (bytes 36 0x0a080e_070b0c_06010a_070202_02000a_0a0d0e_070806_0c0a0d_06070a_0f0306_040d06_0b0901))
-    (left (0 ∷ []) (bytes 36 0x0a0b0d_0c0e02_0d0707_010402_02000a_0a0d0e_070806_0c0a0d_06070a_0f0306_040d06_0b0901) (bytes 3 0xee_ee_ee))
+    ∷ row (step (order 16 3 3) (Mix 1 3) (draws 96 24) [] (bytes 36 0x040a02_0b0b03_020403_0f030e_0e0b09_00090b_07080b_0f0a0e_0b0909_0a0d09_070f00_0f0d00))
+    (left (0 ∷ []) (bytes 36 0x060f05_020607_0e0c07_0a0800_0e0b09_00090b_07080b_0f0a0e_0b0909_0a0d09_070f00_0f0d00) (bytes 3 0xee_ee_ee))
     -- F16, n = 2: Check where T[1,1] is 0
     ∷ row (step (order 16 2 1) (Check 1) (draws 113 5) [] (bytes 4 0x0d0d_0d0f))
     (left (1 ∷ []) (bytes 4 0x0d0d_0d0f) (bytes 1 0xee))
     -- F256, n = 3: Check where T[2,2] is 0
-    ∷ row (step (order 256 3 2) (Check 2) (draws 72 18) [] (bytes 18 0xee751f_fcab06_e49257_5792ca_8e57d9_2d65f3))
+    ∷ row (step (order 256 3 2) (Check 2) (draws 72 21) [] (bytes 18 0xee751f_fcab06_e49257_5792ca_8e57d9_2d65f3))
     (left (1 ∷ []) (bytes 18 0xee751f_fcab06_e49257_5792ca_8e57d9_2d65f3) (bytes 2 0xee_ee))
     -- F16, n = 4: Check where T[2,2] is 2
-    ∷ row (step (order 16 4 2) (Check 2) (draws 159 24) [] (bytes 24 0x0f010109_0308040b_06030300_000d020d_030c0f02_0106020d))
+    ∷ row (step (order 16 4 2) (Check 2) (draws 159 30) [] (bytes 24 0x0f010109_0308040b_06030300_000d020d_030c0f02_0106020d))
     (left (0 ∷ []) (bytes 24 0x0f010109_0308040b_06030300_000d020d_030c0f02_0106020d) (bytes 2 0xee_ee))
     -- F256, n = 2: Check where T[1,1] is 128
     ∷ row (step (order 256 2 2) (Check 1) (draws 5 7) [] (bytes 12 0x9010_03d6_5bca_4323_95af_d3b6))
@@ -233,17 +233,17 @@ rows =
     ∷ row (solve (order 16 2 2) (draws 221 36) (bytes 2 0x1d_db) (bytes 12 0x0a0b_080a_0b0a_0604_0a0e_0200))
     (left (2 ∷ 5 ∷ 28 ∷ 1 ∷ []) (bytes 12 0x0706_0c0e_0809_0808_0909_0808) (bytes 2 0x00_00))
     -- F16, n = 3: a whole solve, solved
-    ∷ row (solve (order 16 3 2) (draws 180 104) (bytes 4 0xee_82_6b_b9) (bytes 18 0x0b0308_040306_050909_030200_050603_0b0b07))
-    (left (0 ∷ 8 ∷ 104 ∷ 4 ∷ []) (bytes 18 0x0d0b07_020300_040f0c_06080e_09050d_0d0a02) (bytes 2 0x07_05))
+    ∷ row (solve (order 16 3 2) (draws 180 110) (bytes 4 0xee_82_6b_b9) (bytes 18 0x0b0308_040306_050909_030200_050603_0b0b07))
+    (left (0 ∷ 8 ∷ 110 ∷ 4 ∷ []) (bytes 18 0x0a060d_0a0308_0a010c_060600_0b0b01_09030f) (bytes 2 0x07_05))
     -- F16, n = 3: a whole solve, stopped at 2
-    ∷ row (solve (order 16 3 3) (draws 27 219) (bytes 6 0xb5_d5_c4_4d_49_b4) (bytes 36 0x0c0e02_010b0a_050204_0f020a_080b01_0c0901_0a0209_0a0a05_000e0f_0b0801_08010b_060703))
-    (left (2 ∷ 8 ∷ 144 ∷ 2 ∷ []) (bytes 36 0x0c000d_09040f_0c0c01_08040d_040d09_0f0e01_060701_010104_010d0c_09030a_0a020b_020d0c) (bytes 3 0x00_00_00))
+    ∷ row (solve (order 16 3 3) (draws 27 231) (bytes 6 0xb5_d5_c4_4d_49_b4) (bytes 36 0x0c0e02_010b0a_050204_0f020a_080b01_0c0901_0a0209_0a0a05_000e0f_0b0801_08010b_060703))
+    (left (2 ∷ 8 ∷ 154 ∷ 2 ∷ []) (bytes 36 0x030301_070500_030f0d_0a060d_030300_0d060b_020200_050809_020d0f_0f0906_0a050c_0a0900) (bytes 3 0x00_00_00))
     -- F16, n = 4: a whole solve, solved
-    ∷ row (solve (order 16 4 2) (draws 113 204) (bytes 6 0x4c_c9_d4_bd_1c_6a) (bytes 24 0x0d0a0d0a_03030508_080b0204_0b01050e_070a0c07_0008020d))
-    (left (0 ∷ 8 ∷ 204 ∷ 6 ∷ []) (bytes 24 0x0608020d_0500020c_0800030d_08070b04_0e04000b_0807040c) (bytes 2 0x06_07))
+    ∷ row (solve (order 16 4 2) (draws 113 222) (bytes 6 0x4c_c9_d4_bd_1c_6a) (bytes 24 0x0d0a0d0a_03030508_080b0204_0b01050e_070a0c07_0008020d))
+    (left (0 ∷ 8 ∷ 222 ∷ 6 ∷ []) (bytes 24 0x00050307_0200030a_0b0b0600_07010f09_05060301_0d020109) (bytes 2 0x06_07))
     -- F16, n = 4: a whole solve, stopped at 1
-    ∷ row (solve (order 16 4 2) (draws 72 204) (bytes 6 0x38_3d_64_53_fa_d6) (bytes 24 0x0e050f04_0b060408_07070203_0e07040d_05030d08_08070a07))
-    (left (1 ∷ 2 ∷ 60 ∷ 0 ∷ []) (bytes 24 0x0407080b_0a030e05_09020008_0e07040d_05030d08_08070a07) (bytes 2 0x00_00))
+    ∷ row (solve (order 16 4 2) (draws 72 222) (bytes 6 0x38_3d_64_53_fa_d6) (bytes 24 0x0e050f04_0b060408_07070203_0e07040d_05030d08_08070a07))
+    (left (1 ∷ 2 ∷ 72 ∷ 0 ∷ []) (bytes 24 0x01010c0c_000f010c_060d030b_0e07040d_05030d08_08070a07) (bytes 2 0x00_00))
     -- F256, n = 2: a whole solve, solved
     ∷ row (solve (order 256 2 2) (draws 103 42) (bytes 2 0x4d_d0) (bytes 12 0xd9d9_e8bf_22a1_75b4_0615_e618))
     (left (0 ∷ 8 ∷ 42 ∷ 2 ∷ []) (bytes 12 0x8988_86c8_6287_6161_0100_1ae8) (bytes 2 0xe5_f2))
@@ -251,17 +251,17 @@ rows =
     ∷ row (solve (order 256 2 2) (draws 221 42) (bytes 2 0x11_1d) (bytes 12 0xaafd_58f6_4b58_26a5_dac7_1203))
     (left (2 ∷ 5 ∷ 34 ∷ 1 ∷ []) (bytes 12 0x0b0a_cdcf_16c9_7575_aeae_3297) (bytes 2 0x00_00))
     -- F256, n = 3: a whole solve, solved
-    ∷ row (solve (order 256 3 1) (draws 180 40) (bytes 2 0xee_82) (bytes 6 0xfb43ef_34a356))
-    (left (0 ∷ 3 ∷ 40 ∷ 2 ∷ []) (bytes 6 0xac339e_d49fc8) (bytes 1 0x83))
+    ∷ row (solve (order 256 3 1) (draws 180 43) (bytes 2 0xee_82) (bytes 6 0xfb43ef_34a356))
+    (left (0 ∷ 3 ∷ 43 ∷ 2 ∷ []) (bytes 6 0x68b8d1_9ba5bd) (bytes 1 0x83))
     -- F256, n = 3: a whole solve, stopped at 1
-    ∷ row (solve (order 256 3 2) (draws 159 119) (bytes 4 0xd8_d9_e0_20) (bytes 18 0x3f310e_e903bd_14dbdc_03b3b0_70dd2e_fd734f))
-    (left (1 ∷ 2 ∷ 42 ∷ 0 ∷ []) (bytes 18 0xde1ac4_bbddb2_2f807d_03b3b0_70dd2e_fd734f) (bytes 2 0x00_00))
+    ∷ row (solve (order 256 3 2) (draws 159 128) (bytes 4 0xd8_d9_e0_20) (bytes 18 0x3f310e_e903bd_14dbdc_03b3b0_70dd2e_fd734f))
+    (left (1 ∷ 2 ∷ 48 ∷ 0 ∷ []) (bytes 18 0x6eec82_a2285e_603280_03b3b0_70dd2e_fd734f) (bytes 2 0x00_00))
     -- F256, n = 4: a whole solve, solved
-    ∷ row (solve (order 256 4 1) (draws 180 78) (bytes 3 0xee_82_61) (bytes 8 0xfb43caf1_a35f5557))
-    (left (0 ∷ 3 ∷ 78 ∷ 3 ∷ []) (bytes 8 0x53b02ecc_07c4dff9) (bytes 1 0xe5))
+    ∷ row (solve (order 256 4 1) (draws 180 87) (bytes 3 0xee_82_61) (bytes 8 0xfb43caf1_a35f5557))
+    (left (0 ∷ 3 ∷ 87 ∷ 3 ∷ []) (bytes 8 0x47851edd_40d23d4a) (bytes 1 0xe5))
     -- F256, n = 4: a whole solve, stopped at 1
-    ∷ row (solve (order 256 4 1) (draws 5 78) (bytes 3 0x87_84_6f) (bytes 8 0x90ec037f_5bca432c))
-    (left (1 ∷ 1 ∷ 33 ∷ 0 ∷ []) (bytes 8 0x90ec037f_5bca432c) (bytes 1 0x00))
+    ∷ row (solve (order 256 4 1) (draws 5 87) (bytes 3 0x87_84_6f) (bytes 8 0x90ec037f_5bca432c))
+    (left (1 ∷ 1 ∷ 42 ∷ 0 ∷ []) (bytes 8 0x90ec037f_5bca432c) (bytes 1 0x00))
     ∷ []
 
 pub vectors : Holds rows

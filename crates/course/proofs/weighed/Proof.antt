@@ -17,9 +17,9 @@ columns-small : (c : tie.Start) → c .args .c * (c .args .n - 1) * (2 * c .args
 columns-small c =
     mul-le-mul {n₁ = c .args .c * (c .args .n - 1)} {m₁ = 2 * c .args .n - 1} {n₂ = mostWidth * 3} {m₂ = 7} (column-small c) (omega (arith, c .pre .1))
 
-flags-small : (c : tie.After-flag-draws) → c .flag-draws .result * c .before .args .flags ≤ 27 * (3 * mostWidth * mostWidth)
+flags-small : (c : tie.After-flag-draws) → c .flag-draws .result * c .before .args .flags ≤ 36 * (3 * mostWidth * mostWidth)
 flags-small c =
-    mul-le-mul {n₁ = c .flag-draws .result} {m₁ = c .before .args .flags} {n₂ = 27} {m₂ = 3 * mostWidth * mostWidth} (c .flag-draws .ensures .1) (c .before .pre .3)
+    mul-le-mul {n₁ = c .flag-draws .result} {m₁ = c .before .args .flags} {n₂ = 36} {m₂ = 3 * mostWidth * mostWidth} (c .flag-draws .ensures .1) (c .before .pre .3)
 
 pairs-times : (c : tie.After-pair-count) → c .pair-count .result * c .before .before .args .times ≤ 6 * (9 * mostWidth * mostWidth * mostWidth)
 pairs-times c =

@@ -7,7 +7,7 @@ use borrow.Author.Needs.{needs}
 use Rattle.flag.proofs.flag_draws.Statement.{statement}
 use Rattle.flag.proofs.flag_draws.Tie as tie
 
-few : (c : tie.After-fold-draws) → c .before .fold-count .result * c .fold-draws .result ≤ 27
+few : (c : tie.After-fold-draws) → c .before .fold-count .result * c .fold-draws .result ≤ 36
 few c = rw (c .before .fold-count .ensures, c .fold-draws .ensures .0) (flag-few (c .before .before .args .f) (c .before .before .args .n) (omega arith))
 
 fold-count-requires : tie.Need-fold-count-requires

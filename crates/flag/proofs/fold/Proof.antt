@@ -10,8 +10,8 @@ use borrow.Author.Needs.{needs}
 use Rattle.flag.proofs.fold.Statement.{statement}
 use Rattle.flag.proofs.fold.Tie as tie
 
-fresh-draws-requires : tie.Need-fresh-draws-requires
-fresh-draws-requires c κs = search needs
+pair-count-requires : tie.Need-pair-count-requires
+pair-count-requires c κs = search needs
 
 array-borrow-prefix-t : tie.Need-array-borrow-prefix-t
 array-borrow-prefix-t c = search needs
@@ -48,13 +48,13 @@ same-length-3 c = search needs
 
 returns : tie.Need-returns
 unfolding fold
-returns c = rw (rest, c .before .before .before .before .before .before .before .before .before .before .before .before .before .fresh-draws .ensures) at (c .before .before .before .before .before .before .before .passes .ensures)
+returns c = rw (rest, c .before .before .before .before .before .before .before .before .before .before .before .before .before .pair-count .ensures) at (c .before .before .before .before .before .before .before .passes .ensures)
 
 pub fold-spec : {M : Type 1} → statement M
 fold-spec =
     tie.close
     (tie.spec
-    fresh-draws-requires
+    pair-count-requires
     array-borrow-prefix-t
     slice-aggregate-passes
     sub-passes

@@ -12,7 +12,7 @@ first-terms-requires : tie.Need-first-terms-requires
 first-terms-requires c κs =
     let e = c .before .before .before .if1 .taken in
     let q = rw e at (c .before .before .before .before .before .before .before .before .before .before .pre) in
-    (q .1 .0 .0, q .1 .0 .1, q .1 .0 .2, sym e, q .1 .0 .3, q .1 .0 .4, q .1 .1 .0, q .1 .1 .1)
+    (q .0, (q .1 .0 .0, q .1 .0 .1, q .1 .0 .2, sym e, q .1 .0 .3, q .1 .0 .4, q .1 .1 .0, q .1 .1 .1))
 
 second-terms-requires : tie.Need-second-terms-requires
 second-terms-requires c κs =
@@ -25,7 +25,7 @@ first-terms-requires-2 : tie.Need-first-terms-requires-2
 first-terms-requires-2 c κs =
     let e = c .before .before .before .if2 .taken in
     let q = rw e at (c .before .before .before .before .before .before .before .before .before .before .before .pre) in
-    (q .1 .0 .0, q .1 .0 .1, q .1 .0 .2, sym e, q .1 .0 .3, q .1 .0 .4, q .1 .1 .0, q .1 .1 .1)
+    (q .0, (q .1 .0 .0, q .1 .0 .1, q .1 .0 .2, sym e, q .1 .0 .3, q .1 .0 .4, q .1 .1 .0, q .1 .1 .1))
 
 second-terms-requires-2 : tie.Need-second-terms-requires-2
 second-terms-requires-2 c κs =
@@ -38,7 +38,7 @@ first-terms-requires-3 : tie.Need-first-terms-requires-3
 first-terms-requires-3 c κs =
     let e : length (c .before .before .before .before .before .before .before .before .before .before .before .args .s .now) ≡ 4 = omega arith in
     let q = rw e at (c .before .before .before .before .before .before .before .before .before .before .before .pre) in
-    (q .1 .0 .0, q .1 .0 .1, q .1 .0 .2, sym e, q .1 .0 .3, q .1 .0 .4, q .1 .1 .0, q .1 .1 .1)
+    (q .0, (q .1 .0 .0, q .1 .0 .1, q .1 .0 .2, sym e, q .1 .0 .3, q .1 .0 .4, q .1 .1 .0, q .1 .1 .1))
 
 second-terms-requires-3 : tie.Need-second-terms-requires-3
 second-terms-requires-3 c κs =

@@ -19,7 +19,7 @@ crossTerms n z a b y = overPairs (crossTurn z a b) n y
 unfoldable pub ownTerms : List ℕ → List ℕ → List ℕ
 ownTerms s t = tab (length s) (λ i. bitAnd (getD s i 0) (getD t i 0))
 
--- pair number k, i < j: its draw joins share i, and what stands for the pair joins share j
+-- pair number k, i < j: its draw joins share i, and what stands for the pair in y joins share j; in the refresh of t that is the draw again
 unfoldable pub sumTurn : List ℕ → List ℕ → ℕ → ℕ → ℕ → List ℕ → List ℕ
 sumTurn z y k i j out = xorAt j (getD y k 0) (xorAt i (getD z k 0) out)
 
