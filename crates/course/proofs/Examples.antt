@@ -1,5 +1,5 @@
--- The counts of 01's examples: steps, mask draws and nonzero draws, each row by computation. And R-5's: the mask and nonzero draws before each
--- place, and records whose counters match and don't.
+-- The counts of 01's examples and of R-6's: steps, mask draws and nonzero draws, each row by computation. And R-5's: the mask and nonzero draws
+-- before each place, and records whose counters match and don't.
 -- Assumes nothing.
 use mathlib.Core.Bool.{Bool, true, false}
 use mathlib.Core.List.{List, [], _∷_}
@@ -36,6 +36,7 @@ pub figures : full 16 2 1 ∷ full 16 2 2 ∷ stopped 16 2 2 2 ∷ stopped 16 2 
 unfolding folds foldDraws inversionDraws mixCost checkCost scaleCost scaleNonzero clearCost openCost each column columns openings stepList upTo costOf sumOver sums
 figures = refl
 
+-- R-6's
 pub figures-by-pairs : full 16 3 2 ∷ stopped 16 3 2 1 ∷ stopped 16 3 2 2 ∷ full 256 3 1 ∷ full 16 4 1 ∷ full 256 4 1 ∷ []
     ≡ counts 8 110 4 ∷ counts 2 36 0 ∷ counts 5 85 2 ∷ counts 3 43 2 ∷ counts 3 75 3 ∷ counts 3 87 3 ∷ []
 unfolding folds foldDraws inversionDraws mixCost checkCost scaleCost scaleNonzero clearCost openCost each column columns openings stepList upTo costOf sumOver sums
