@@ -263,11 +263,15 @@ INLINE uint8_t open_unknown(work *t, unsigned w, unsigned n, size_t j)
 {
     uint8_t a[4];
     get(t, n, j, t->m, a);
-    uint8_t x = opening(t, w, n, a);
+    return opening(t, w, n, a);
+}
+
+/* x is the unknown that was opened, which is public: one product to each share. */
+INLINE void lift(work *t, unsigned w, unsigned n, size_t j, uint8_t x)
+{
     for (size_t k = 0; k < j; k++)
         for (unsigned s = 0; s < n; s++)
             t->row[k][s][t->m] ^= times(w, x, t->row[k][s][j]);
-    return x;
 }
 
 /* The step list. Returns the column that stopped it, from 1, or 0. */
@@ -282,8 +286,11 @@ INLINE size_t run_list(work *t, unsigned w, unsigned n, uint8_t *solution)
         for (size_t k = j + 1; k < t->m; k++)
             clear(t, w, n, j, k);
     }
-    for (size_t j = t->m; j-- > 0;)
+    for (size_t j = t->m; j-- > 0;) {
         solution[j] = open_unknown(t, w, n, j);
+        if (j > 0)
+            lift(t, w, n, j, solution[j]);
+    }
     return 0;
 }
 
@@ -316,7 +323,7 @@ static uint64_t solve_rows(uint64_t field, uint64_t n, uint64_t m, uint8_t *tabl
 
     uint64_t mask_taken = (uint64_t)(t.mask - mask), nonzero_taken = (uint64_t)(t.nonzero - nonzero);
     if (stop == 0) {
-        memcpy(answer, (uint64_t[4]){m * (m + 2), mask_taken, nonzero_taken, 0}, 4 * sizeof *answer);
+        memcpy(answer, (uint64_t[4]){m * m + 3 * m - 1, mask_taken, nonzero_taken, 0}, 4 * sizeof *answer);
         return HZ_SOLVED;
     }
     memset(solution, 0, m);

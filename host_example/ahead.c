@@ -19,8 +19,9 @@ enum { AT_A_TIME = 16 }; /* bytes that the bus brings in one turn */
 static uint64_t answer[HZ_ANSWER_WORDS];
 static FILE *bus;
 
-/* All that outlives a power cut. A host that stores it in two places in turn has one of
- * them whole, whenever the cut comes. */
+/* All that outlives a power cut: the solution too, since Lift reads there what Open has
+ * written. A host that stores it in two places in turn has one of them whole, whenever
+ * the cut comes. */
 static struct state {
     uint64_t record[HZ_RECORD_WORDS];
     uint8_t table[TABLE], x[SIZE];
@@ -81,7 +82,8 @@ static void close_tape(tape *t)
  * many steps (0: never), before the last of them is stored. Returns that step's code. */
 static uint64_t power_on(int fails)
 {
-    static const char *const names[] = {"Mix", "Check", "Scale", "Clear", "Open"};
+    static const char *const names[] = {[HZ_MIX] = "Mix",     [HZ_CHECK] = "Check", [HZ_SCALE] = "Scale",
+                                        [HZ_CLEAR] = "Clear", [HZ_OPEN] = "Open",   [HZ_LIFT] = "Lift"};
     struct state now = stored;
     uint64_t *record = now.record, code;
     /* Before the counters are used: it refuses a record whose counters were stored wrong, by 19. */

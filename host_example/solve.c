@@ -78,10 +78,20 @@ static void in_one_call(void)
     printf("left in the table: %d %d | %d   %d %d | %d\n", left[0], left[1], left[2], left[3], left[4], left[5]);
 }
 
+/* Signers of another make want every opened number before it is used. Open(j) has just
+ * written x_j into the solution, and Lift(j), which carries it into the rows above, is
+ * yet to come (x_1 has none above it). It may be copied or sent away here, as long as
+ * that takes; only the solution must stay as it is, for Lift reads x_j there. */
+static void collect(uint64_t j, uint8_t opened)
+{
+    printf("[x_%" PRIu64 " = %d] ", j, opened);
+}
+
 static void by_steps(void)
 {
-    static const char *const names[] = {"Mix", "Check", "Scale", "Clear", "Open"};
-    uint8_t table[TABLE], x[SIZE] = {0};
+    static const char *const names[] = {[HZ_MIX] = "Mix",     [HZ_CHECK] = "Check", [HZ_SCALE] = "Scale",
+                                        [HZ_CLEAR] = "Clear", [HZ_OPEN] = "Open",   [HZ_LIFT] = "Lift"};
+    uint8_t table[TABLE], x[SIZE] = {0}; /* one solution for all steps */
     uint64_t record[HZ_RECORD_WORDS], code;
     deal(table);
     must(hz_start(FIELD, SHARES, SIZE, record, HZ_RECORD_WORDS, answer, HZ_ANSWER_WORDS), HZ_FRESH);
@@ -89,7 +99,8 @@ static void by_steps(void)
         must(hz_wanted(record, HZ_RECORD_WORDS, answer, HZ_ANSWER_WORDS), HZ_WANTED);
         size_t mask_draws = answer[0], nonzero_draws = answer[1];
         uint8_t *mask = tape(mask_draws, 0), *nonzero = tape(nonzero_draws, 1);
-        printf("%s(%" PRIu64, names[record[HZ_STEP]], record[HZ_J]);
+        uint64_t j = record[HZ_J];
+        printf("%s(%" PRIu64, names[record[HZ_STEP]], j);
         if (record[HZ_K] != 0)
             printf(",%" PRIu64, record[HZ_K]);
         printf(") ");
@@ -97,6 +108,8 @@ static void by_steps(void)
                        HZ_ANSWER_WORDS);
         free(mask);
         free(nonzero);
+        if (code == HZ_OPENED || code == HZ_DONE)
+            collect(j, x[j - 1]);
         /* the host's other work goes here */
     } while (code == HZ_MOVED || code == HZ_OPENED);
     must(code, HZ_DONE);

@@ -33,7 +33,8 @@
  * to solve the same system again, deal it again.
  * A list of plain values has the m(m+1) entries in the same row order, a byte each.
  * hz_plain only reads it.
- * The solution has m bytes: x_j is byte j-1. It is plain, not shared.
+ * The solution has m bytes: x_j is byte j-1. It is plain, not shared. Single steps
+ * write it from x_m down to x_1, and read it again: lend them all the same one.
  *
  *
  * TAPES
@@ -121,6 +122,8 @@
  *    18  hz_read: bytes after the end           the first one's offset
  *    19  record: its counters are not the       0
  *        draws of the steps before its place
+ *    20  hz_step at Lift, field 16: byte j-1    j
+ *        of the solution is 16 or more
  *
  * 13 is none of a call's: desk, which prints the counts of an order, gives it.
  * Where several apply, the first in the call's own order is given.
@@ -139,7 +142,7 @@
 extern "C" {
 #endif
 
-#define HZ_VERSION "0.14" /* ./install takes it from here for pkg-config */
+#define HZ_VERSION "0.15" /* ./install takes it from here for pkg-config */
 
 #define HZ_RECORD_WORDS 8
 #define HZ_ANSWER_WORDS 4
@@ -178,6 +181,7 @@ extern "C" {
 #define HZ_OPEN       4 /* as HZ_CHECK */
 #define HZ_AT_STOPPED 5 /* as HZ_CHECK: stopped at column j */
 #define HZ_AT_DONE    6 /* j and k are 0 */
+#define HZ_LIFT       7 /* j, 2 <= j <= m; k is 0 */
 
 /* A fresh record, at the first step of a system of these sizes.
  *
@@ -204,15 +208,24 @@ uint64_t hz_wanted(const uint64_t *record, size_t record_len,
  *     Check(j)    opens whether T[j,j] is 0           f·2N + N              0
  *     Scale(j)    makes T[j,j] 1                      (n-1)²+N + n(n-1)L    n-1
  *     Clear(j,k)  makes T[k,j] 0                      L·N                   0
- *     Open(j)     opens x_j                           N                     0
+ *     Open(j)     opens x_j and writes it             N                     0
+ *     Lift(j)     takes x_j·T[k,j] from T[k,m+1]      0                     0
+ *                 in the rows k < j
  *
  * The list: for j = 1..m: Mix(j,k) for k = j+1..m, Check(j), Scale(j),
- * Clear(j,k) for k = j+1..m. Then Open(j) for j = m down to 1.
+ * Clear(j,k) for k = j+1..m. Then for j = m down to 1: Open(j), and Lift(j) where
+ * j > 1. In all m²+3m-1 steps.
  *
- * HZ_MOVED: after Mix, Check, Scale, Clear. The table is as after this step, the
- *     record at the next place. The solution is unchanged.
+ * Lift(j) reads x_j from the solution that it is lent, byte j-1, and looks at no
+ * other byte of it. Between the two a host may keep x_j as it likes, but it is to
+ * lend Lift what Open wrote: a run's steps all lend one solution, which nothing
+ * else touches. Lift works with another byte as it finds it, and the unknowns that
+ * are opened after it are then those of other equations.
+ *
+ * HZ_MOVED: after Mix, Check, Scale, Clear, Lift. The table is as after this step,
+ *     the record at the next place. The solution is unchanged.
  * HZ_OPENED: after Open(j) with j > 1. Byte j-1 of the solution is x_j and its
- *     other bytes are unchanged; table and record as above.
+ *     other bytes are unchanged; so is the table. The record is at Lift(j).
  * HZ_DONE: the same after Open(1), for x_1; the record becomes done (j, k: 0).
  * HZ_STOPPED: Check(j) found that T[j,j] is 0. The record becomes stopped at j
  *     (k: 0). Table and solution are unchanged. In a run from hz_start, where the
@@ -221,13 +234,14 @@ uint64_t hz_wanted(const uint64_t *record, size_t record_len,
  *     j = 1). Of a record or a table that a host made up it says nothing more.
  * Refusals, in order: 1, 2, 3 (the record's numbers), 4 (table m(m+1)n), 5
  *     (solution m, whatever the step), 10, 19, 11, 6 (the whole table), 7, 14, 8,
- *     15, 9 (place within the bytes lent), 12.
+ *     15, 9 (place within the bytes lent), 20, 12.
  *     10 is any place that the list above has not: another step number, a j or k
  *     outside its range, or not 0 where the step carries none; also stopped at a
  *     column outside 1..m. 19 is any pair of counters but the sums of the draws of
  *     the steps before the place: of all up to and with Check(j) where it is stopped
  *     at j, of the whole list where it is done. 10, 12 and 19 cannot come up while a
- *     record that hz_start made and its table are touched by hz_step alone. */
+ *     record that hz_start made and its table are touched by hz_step alone; nor can
+ *     20, where that holds of the solution too. */
 uint64_t hz_step(uint64_t *record, size_t record_len,
                  uint8_t *table, size_t table_len,
                  uint8_t *solution, size_t solution_len,
@@ -293,7 +307,7 @@ uint64_t hz_gather(uint64_t field, uint64_t shares, uint64_t size,
 
 /* What a full solve takes.
  *
- * HZ_COUNTS: answer: m(m+2) steps, the mask draws summed over the list of steps,
+ * HZ_COUNTS: answer: m²+3m-1 steps, the mask draws summed over the list of steps,
  *     m(n-1) nonzero draws. What a record's counters have not reached of these is
  *     what is still to come, where the system does not stop.
  * Refusals, in order: 1, 2, 3. */
@@ -336,7 +350,7 @@ uint64_t hz_read(const uint8_t *input, size_t input_len,
  *     uint64_t answer[HZ_ANSWER_WORDS];
  *
  *     fill_random(deal_tape, 6);
- *     fill_random(mask, 36);              // hz_counts(16, 2, 2, ..): 8 36 2
+ *     fill_random(mask, 36);              // hz_counts(16, 2, 2, ..): 9 36 2
  *     fill_nonzero(nonzero, 2);
  *     if (hz_deal(16, 2, 2, values, 6, table, 12, deal_tape, 6, answer, 4) != HZ_FILLED)
  *         refused(answer);                // its number, and its detail

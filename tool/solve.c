@@ -57,6 +57,9 @@ static void say_lent(void)
     case 19:
         fputs("the record's counters do not match its place", stderr);
         break;
+    case 20:
+        fprintf(stderr, "x_%" PRIu64 " in the solution is no element of this field, 0 to %" PRIu64, answer[1], field - 1);
+        break;
     default:
         say_buffer();
     }

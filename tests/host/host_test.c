@@ -259,6 +259,16 @@ static void same_bytes(const buffer *b, const uint8_t *wanted, const char *whose
 CALL(hz, library)
 CALL(model, model)
 
+/* How many accepted calls were a Lift, by field (16 first) and by shares from 2. */
+static uint64_t lifts_made[2][3];
+
+static void note_lift(int kind)
+{
+    const uint64_t *r = words(&record);
+    if (kind == STEP && r[HZ_STEP] == HZ_LIFT)
+        lifts_made[r[HZ_FIELD] != 16][r[HZ_SHARES] - 2]++;
+}
+
 /* How many accepted calls made a zero flag, of Mix, of Check and of whole solves, by field
  * (16 first) and by shares from 2. */
 enum { WHOLE_SOLVE = HZ_CHECK + 1, FLAG_MAKERS };
@@ -297,8 +307,10 @@ static uint64_t call(int kind)
         for (int i = 0; lent[i] != NULL; i++)
             if (lent[i] != &answer || code == HZ_BAD_WORDS)
                 same_bytes(lent[i], lent[i]->lent, "before");
-    if (code != HZ_REFUSED && code != HZ_BAD_WORDS)
+    if (code != HZ_REFUSED && code != HZ_BAD_WORDS) {
         note_flag(kind);
+        note_lift(kind);
+    }
     for (int i = 0; lent[i] != NULL; i++)
         memcpy(lent[i]->lent, lent[i]->model, bytes_of(lent[i]));
     return code;
@@ -437,6 +449,36 @@ static void make_table(void)
     }
 }
 
+/* The shares of T[r,c], both from 1, and their sum. */
+static uint8_t *cell(uint64_t r, uint64_t c)
+{
+    return table.lent + ((r - 1) * (size + 1) + (c - 1)) * shares;
+}
+
+static uint8_t cell_value(uint64_t r, uint64_t c)
+{
+    uint8_t sum = 0;
+    for (uint64_t s = 0; s < shares; s++)
+        sum ^= cell(r, c)[s];
+    return sum;
+}
+
+/* A solution before anything is written there: any bytes, or elements of the field, as
+ * Lift wants its byte. */
+static void make_solution(void)
+{
+    solution.len = size;
+    fill(solution.lent, size);
+    for (uint64_t i = 0, elements = below(2); elements && i < size; i++)
+        solution.lent[i] = (uint8_t)(solution.lent[i] % field);
+}
+
+/* A byte that is no element of F16. */
+static uint8_t too_large(void)
+{
+    return (uint8_t)(one_in(4) ? 16 : 16 + below(240));
+}
+
 /* A target as long as the table's exchange record. */
 static void make_target(void)
 {
@@ -544,6 +586,22 @@ static bool is_size(uint64_t number)
     return number >= 1 && number <= 96;
 }
 
+/* The steps of the list, and the kinds of places: Lift's number comes after those of the ends. */
+static const uint64_t every_step[] = {HZ_MIX, HZ_CHECK, HZ_SCALE, HZ_CLEAR, HZ_OPEN, HZ_LIFT};
+#define EVERY_STEP (sizeof every_step / sizeof every_step[0])
+#define LAST_PLACE HZ_LIFT
+
+static bool is_step(uint64_t step)
+{
+    return step <= HZ_OPEN || step == HZ_LIFT;
+}
+
+/* Mix and Clear have j and k. */
+static bool is_pair(uint64_t step)
+{
+    return step == HZ_MIX || step == HZ_CLEAR;
+}
+
 static void fresh_words(void)
 {
     fill(record.lent, record.capacity * record.width);
@@ -612,7 +670,7 @@ static void plant_large(buffer *b, size_t at)
 static void spoil(void)
 {
     size_t which;
-    switch (below(18)) {
+    switch (below(19)) {
     case 0:
         stretch(&table, wrong_length(table.len));
         break;
@@ -662,6 +720,9 @@ static void spoil(void)
         which = HZ_MASK_TAKEN + below(2);
         words(&record)[which] = one_in(2) ? absurd() : words(&record)[which] + 1 - 2 * below(2);
         break;
+    case 17:
+        damage(&solution);
+        break;
     default:
         switch (below(3)) {
         case 0:
@@ -708,17 +769,16 @@ static void case_spoilt(void)
     for (int kind = 0; kind < KINDS; kind++) {
         any_values();
         make_table();
-        solution.len = size;
-        fill(solution.lent, size);
+        make_solution();
         make_mask(kind == DEAL ? values.len * (shares - 1) : full_mask());
         make_nonzero(full_nonzero());
         make_target();
         make_input();
         fresh_words();
-        uint64_t step = below(7), j = 1 + below(size), k = 1 + below(size);
-        bool pair = step == HZ_MIX || step == HZ_CLEAR;
+        uint64_t step = below(LAST_PLACE + 1), j = 1 + below(size), k = 1 + below(size);
+        bool pair = is_pair(step);
         set_record(step, step == HZ_AT_DONE ? 0 : j, pair ? k : 0);
-        if (kind == STEP && (!pair || j < k) && step <= HZ_OPEN) {
+        if (kind == STEP && (!pair || j < k) && is_step(step)) {
             mask.len = model_mask_draws(field, shares, size, step, j);
             nonzero.len = model_nonzero_draws(shares, step);
         }
@@ -753,8 +813,7 @@ static void case_solve(void)
 {
     any_values();
     make_table();
-    solution.len = size;
-    fill(solution.lent, size);
+    make_solution();
     make_mask(full_mask() + (one_in(2) ? 0 : below(SPARE)));
     make_nonzero(full_nonzero() + (one_in(2) ? 0 : below(SPARE)));
     for (size_t i = full_nonzero(); i < nonzero.len; i++)
@@ -774,15 +833,18 @@ static void refused_between(void)
     memcpy(kept, record.lent, sizeof kept);
     size_t table_len = table.len, mask_len = mask.len, nonzero_len = nonzero.len;
     size_t at = below(table.len);
-    uint8_t kept_byte = table.lent[at], kept_draws[3];
-    uint64_t number = 0;
+    uint8_t kept_byte = table.lent[at], kept_draws[3], kept_solution[96];
+    uint64_t number = 0, j = kept[HZ_J];
     memcpy(kept_draws, nonzero.lent, nonzero.len);
-    switch (below(8)) {
+    memcpy(kept_solution, solution.lent, size);
+    switch (kept[HZ_STEP] == HZ_LIFT && one_in(3) ? 8 : below(8)) {
     case 0:
         stretch(&mask, mask_len + 1);
         number = 14;
         break;
     case 1:
+        if (mask.len == 0)
+            return;
         mask.len--;
         number = 7;
         break;
@@ -800,7 +862,7 @@ static void refused_between(void)
         break;
     case 5: /* 10 or 11, as it comes */
         if (one_in(2))
-            words(&record)[HZ_STEP] = HZ_AT_STOPPED + below(4);
+            words(&record)[HZ_STEP] = (one_in(2) ? HZ_AT_STOPPED : LAST_PLACE + 1) + below(2);
         else
             words(&record)[HZ_J] = absurd() | (uint64_t)1 << 40;
         match_counters();
@@ -811,11 +873,17 @@ static void refused_between(void)
         table.lent[at] |= (uint8_t)(16 + 16 * below(15));
         number = 6;
         break;
-    default:
+    case 7:
         if (nonzero.len == 0)
             return;
         plant_zero_draw();
         number = 9;
+        break;
+    default: /* at Lift */
+        if (field == 256)
+            return;
+        solution.lent[j - 1] = too_large();
+        number = 20;
     }
     demand(call(STEP) == HZ_REFUSED, "not refused");
     demand(number == 0 || words(&answer)[0] == number, "refused by another number");
@@ -826,6 +894,7 @@ static void refused_between(void)
     solution.len = size;
     table.lent[at] = kept_byte;
     memcpy(nonzero.lent, kept_draws, nonzero_len);
+    memcpy(solution.lent, kept_solution, size);
 }
 
 /* The same where nothing is wrong but the counters, and of hz_wanted too. */
@@ -834,8 +903,8 @@ static void refused_by_counters(void)
     uint64_t kept[2], *counters = words(&record) + HZ_MASK_TAKEN;
     size_t which = below(2);
     memcpy(kept, counters, sizeof kept);
-    switch (below(4)) {
-    case 0: /* as if the step were done, or done once more */
+    switch (mask.len == 0 ? 1 + below(3) : below(4)) {
+    case 0: /* as if the step were done, or done once more; Lift's draws would change nothing */
         counters[0] += mask.len;
         counters[1] += nonzero.len;
         break;
@@ -872,8 +941,7 @@ static void case_trace(uint64_t system, uint64_t refusals_one_in)
     make_nonzero(full_nonzero());
     memcpy(whole_mask, mask.lent, mask.len);
     memcpy(whole_nonzero, nonzero.lent, nonzero.len);
-    solution.len = size;
-    fill(solution.lent, size);
+    make_solution();
     fresh_words();
     demand(call(START) == HZ_FRESH, "no fresh record");
     demand_counters(0, 0);
@@ -909,6 +977,7 @@ static void case_trace(uint64_t system, uint64_t refusals_one_in)
     nonzero.len = full_nonzero();
     memcpy(mask.lent, whole_mask, mask.len);
     memcpy(nonzero.lent, whole_nonzero, nonzero.len);
+    make_solution(); /* nothing of it comes from the steps */
     solve_and_check();
     const uint64_t *told = words(&answer);
     demand(memcmp(table.lent, stepped_table, table.len) == 0, "another table than after the steps");
@@ -952,10 +1021,10 @@ static void case_made_up(void)
         for (uint64_t r = 0; r < size; r++)
             *value(r, r) = 0;
     make_table();
-    solution.len = size;
-    fill(solution.lent, size);
+    make_solution();
     fresh_words();
-    uint64_t step = one_in(8) ? absurd() : below(8), j = place_number(), k = one_in(2) ? 0 : place_number();
+    uint64_t step = one_in(8) ? absurd() : below(LAST_PLACE + 2), j = place_number();
+    uint64_t k = one_in(2) ? 0 : place_number();
     switch (below(4)) { /* places that exist, more often than by luck */
     case 0:
         step = one_in(2) ? HZ_MIX : HZ_CLEAR;
@@ -964,6 +1033,13 @@ static void case_made_up(void)
         break;
     case 1:
         step = one_in(3) ? HZ_OPEN : one_in(3) ? HZ_CHECK : HZ_SCALE;
+        j = 1 + below(size);
+        k = 0;
+        break;
+    case 2:
+        if (one_in(2))
+            break;
+        step = HZ_LIFT; /* of j = 1 there is none */
         j = 1 + below(size);
         k = 0;
         break;
@@ -980,6 +1056,8 @@ static void case_made_up(void)
             plant_zero_draw();
         if (one_in(16))
             damage(&table);
+        if (one_in(8))
+            damage(&solution);
         bool refused = call(STEP) == HZ_REFUSED;
         uint64_t number = refused ? words(&answer)[0] : 0;
         if (told)
@@ -1013,8 +1091,7 @@ static void deal_and_gather(void)
 /* The plain call on the values as they stand, which it must accept. */
 static uint64_t plain_answer(void)
 {
-    solution.len = size;
-    fill(solution.lent, size);
+    make_solution();
     fresh_words();
     uint64_t code = call(PLAIN);
     demand(code == HZ_SOLVED || code == HZ_STOPPED, "a right system is refused");
@@ -1102,8 +1179,7 @@ static void case_of_refused_shares(uint64_t i)
     any_values();
     shares = refused_shares[i].table;
     make_table();
-    solution.len = size;
-    fill(solution.lent, size);
+    make_solution();
     fresh_words();
     shares = refused_shares[i].tapes;
     make_mask(values.len * (shares - 1));
@@ -1117,9 +1193,8 @@ static void case_of_refused_shares(uint64_t i)
     make_target();
     call_with(given, WRITE);
     call_with(given, READ);
-    for (uint64_t step = HZ_MIX; step <= HZ_AT_DONE; step++) {
-        bool pair = step == HZ_MIX || step == HZ_CLEAR;
-        set_record(step, step == HZ_AT_DONE ? 0 : 1, pair ? 2 : 0);
+    for (uint64_t step = HZ_MIX; step <= LAST_PLACE; step++) {
+        set_record(step, step == HZ_AT_DONE ? 0 : step == HZ_LIFT ? 2 : 1, is_pair(step) ? 2 : 0);
         mask.len = model_mask_draws(field, shares, size, step, 1);
         nonzero.len = model_nonzero_draws(shares, step);
         call_with(given, STEP);
@@ -1136,7 +1211,7 @@ static void case_of_places(uint64_t i)
     shares = 2 + i / 2 % 3;
     size = 1 + i / 6;
     fresh_words();
-    for (uint64_t step = HZ_MIX; step <= HZ_AT_DONE + 1; step++)
+    for (uint64_t step = HZ_MIX; step <= LAST_PLACE + 1; step++)
         for (uint64_t j = 0; j <= size + 1; j++)
             for (uint64_t k = 0; k <= size + 1; k++) {
                 set_record(step, j, k);
@@ -1181,10 +1256,9 @@ static void make_right(int kind, uint64_t step)
     make_table();
     make_target();
     make_input();
-    solution.len = size;
-    fill(solution.lent, size);
+    make_solution();
     fresh_words();
-    bool pair = step == HZ_MIX || step == HZ_CLEAR;
+    bool pair = is_pair(step);
     set_record(step, pair ? size - 1 : size, pair ? size : 0);
     make_tapes(kind);
 }
@@ -1286,9 +1360,10 @@ static void case_of_lengths(uint64_t i)
     shares = 2 + i / 2 % 3;
     size = sizes_of_lengths[i / 6];
     for (size_t which = 0; which < LENGTHS; which++)
-        for (uint64_t step = HZ_MIX; step <= HZ_OPEN; step++) {
-            bool pair = step == HZ_MIX || step == HZ_CLEAR;
-            if (lengths[which].kind == STEP ? pair && size == 1 : step != HZ_CHECK)
+        for (size_t s = 0; s < EVERY_STEP; s++) {
+            uint64_t step = every_step[s];
+            bool two_rows = is_pair(step) || step == HZ_LIFT;
+            if (lengths[which].kind == STEP ? two_rows && size == 1 : step != HZ_CHECK)
                 continue;
             one_wrong_length(which, step);
             all_wrong_from(which, step);
@@ -1309,8 +1384,8 @@ static const struct {
     uint64_t step;
 } readers[] = {
     {SOLVE, &table, 0},       {GATHER, &table, 0},      {STEP, &table, HZ_MIX},  {STEP, &table, HZ_CHECK},
-    {STEP, &table, HZ_SCALE}, {STEP, &table, HZ_CLEAR}, {STEP, &table, HZ_OPEN}, {WRITE, &table, 0},
-    {READ, &table, 0},        {DEAL, &values, 0},       {PLAIN, &values, 0},
+    {STEP, &table, HZ_SCALE}, {STEP, &table, HZ_CLEAR}, {STEP, &table, HZ_OPEN}, {STEP, &table, HZ_LIFT},
+    {WRITE, &table, 0},       {READ, &table, 0},        {DEAL, &values, 0},      {PLAIN, &values, 0},
 };
 #define READERS (sizeof readers / sizeof readers[0])
 
@@ -1321,10 +1396,10 @@ enum { ALONE, LATER_FAULTS, IN_F256, LARGE_ROUNDS };
 /* Sets the record to any place of this kind; false where the size has none. */
 static bool any_place(uint64_t step)
 {
-    bool pair = step == HZ_MIX || step == HZ_CLEAR;
-    if (pair && size == 1)
+    bool pair = is_pair(step), lift = step == HZ_LIFT;
+    if ((pair || lift) && size == 1)
         return false;
-    uint64_t j = 1 + below(pair ? size - 1 : size), k = pair ? j + 1 + below(size - j) : 0;
+    uint64_t j = 1 + lift + below(pair || lift ? size - 1 : size), k = pair ? j + 1 + below(size - j) : 0;
     set_record(step, j, k);
     return true;
 }
@@ -1332,15 +1407,12 @@ static bool any_place(uint64_t step)
 /* The shares of T[j,j]. */
 static uint8_t *pivot(uint64_t j)
 {
-    return table.lent + ((j - 1) * (size + 1) + (j - 1)) * shares;
+    return cell(j, j);
 }
 
 static uint8_t pivot_value(uint64_t j)
 {
-    uint8_t sum = 0;
-    for (uint64_t s = 0; s < shares; s++)
-        sum ^= pivot(j)[s];
-    return sum;
+    return cell_value(j, j);
 }
 
 /* The call of one reader on table and values as they are, which must be refused for
@@ -1385,8 +1457,7 @@ static void large_byte(buffer *b, size_t at, uint64_t r, uint64_t c, uint64_t s)
     field = 16;
     make_values(RANDOM);
     make_table();
-    solution.len = size;
-    fill(solution.lent, size);
+    make_solution();
     plant_large(b, at);
     memcpy(first_table, table.lent, table.len);
     memcpy(dealt_values, values.lent, values.len);
@@ -1449,8 +1520,8 @@ static void case_of_cells(uint64_t i)
  *
  * A step tells apart a tape that is too short and one that is too long. The faults
  * are made from the last of the call's order to the first, so that the first has the
- * last word on what is expected: for a step 7, 14, 8, 15, 9, 12, for the other calls
- * 7, 8, 9, and a longer tape is none. */
+ * last word on what is expected: for a step 7, 14, 8, 15, 9, 20, 12, for the other
+ * calls 7, 8, 9, and a longer tape is none. */
 
 enum { ONE_SHORT, RIGHT_LENGTH, ONE_LONG, MUCH_LONGER, TAPE_LENGTHS };
 enum { NO_ZERO_DRAW, ZERO_DRAW_NEEDED, ZERO_DRAW_BEYOND, ZERO_DRAWS };
@@ -1481,7 +1552,7 @@ static void call_with_tapes(int kind, uint64_t set)
     int zero = (int)(set / TAPE_LENGTHS / TAPE_LENGTHS);
     make_tapes(kind);
     size_t right = nonzero.len;
-    if (right == 0 && nonzero_length == ONE_SHORT)
+    if ((right == 0 && nonzero_length == ONE_SHORT) || (mask.len == 0 && mask_length == ONE_SHORT))
         return;
     if (zero == ZERO_DRAW_NEEDED && right > 0) {
         size_t at = below(right);
@@ -1496,7 +1567,8 @@ static void call_with_tapes(int kind, uint64_t set)
     mask.more = nonzero.more = 0;
 }
 
-/* Every set of tapes at one place, where the pivot is 0 or is not. */
+/* Every set of tapes at one place, where the pivot is 0 or is not, and Lift's byte no
+ * element of F16 or one. */
 static void tapes_of_place(uint64_t step, uint64_t j, uint64_t k)
 {
     for (uint64_t set = 0; set < 2 * TAPE_SETS; set++) {
@@ -1504,9 +1576,12 @@ static void tapes_of_place(uint64_t step, uint64_t j, uint64_t k)
         make_values(RANDOM);
         make_table();
         pivot(j)[0] ^= pivot_value(j) ^ wanted;
+        solution.lent[j - 1] = wanted == 0 ? too_large() : element();
         set_record(step, j, k);
         if (step == HZ_SCALE && wanted == 0)
             expect(12, j, j, 0);
+        else if (step == HZ_LIFT && wanted == 0 && field == 16)
+            expect(20, j, 0, 0);
         else
             expect(0, 0, 0, 0);
         call_with_tapes(STEP, set % TAPE_SETS);
@@ -1521,13 +1596,14 @@ static void case_of_tapes(uint64_t i)
     field = i % 2 == 0 ? 16 : 256;
     shares = 2 + i / 2 % 3;
     size = 1 + i / 6;
-    solution.len = size;
-    fill(solution.lent, size);
+    make_solution();
     fresh_words();
     for (uint64_t j = 1; j <= size; j++) {
         tapes_of_place(HZ_CHECK, j, 0);
         tapes_of_place(HZ_SCALE, j, 0);
         tapes_of_place(HZ_OPEN, j, 0);
+        if (j > 1)
+            tapes_of_place(HZ_LIFT, j, 0);
         for (uint64_t k = j + 1; k <= size; k++) {
             tapes_of_place(HZ_MIX, j, k);
             tapes_of_place(HZ_CLEAR, j, k);
@@ -1549,10 +1625,10 @@ static void case_of_tapes(uint64_t i)
     }
 }
 
-/* Examples of R-2, and 01's edges, in F16 and two shares. */
+/* Examples of R-2, 01's edges, and R-7's, in F16 and two shares. */
 static const struct {
     int kind;
-    uint64_t size, step, k; /* the step at j = 1 */
+    uint64_t size, step, k; /* the step at j = 1, or Lift(2) */
     size_t mask, nonzero;
     uint64_t number, detail; /* 0: accepted */
 } tape_vectors[] = {
@@ -1560,6 +1636,8 @@ static const struct {
     {STEP, 2, HZ_MIX, 2, 6, 1, 7, 7},    {STEP, 2, HZ_MIX, 2, 7, 1, 15, 0},   {STEP, 2, HZ_MIX, 2, 8, 1, 14, 7},
     {STEP, 2, HZ_SCALE, 0, 8, 0, 8, 1},  {STEP, 2, HZ_SCALE, 0, 8, 1, 0, 0},  {STEP, 2, HZ_SCALE, 0, 8, 2, 15, 1},
     {STEP, 2, HZ_SCALE, 0, 9, 0, 14, 8}, {STEP, 2, HZ_SCALE, 0, 9, 2, 14, 8}, {STEP, 2, HZ_SCALE, 0, 7, 2, 7, 8},
+    {STEP, 2, HZ_LIFT, 0, 0, 0, 0, 0},   {STEP, 2, HZ_LIFT, 0, 1, 0, 14, 0},  {STEP, 2, HZ_LIFT, 0, 0, 1, 15, 0},
+    {STEP, 2, HZ_LIFT, 0, 1, 1, 14, 0},  {STEP, 3, HZ_LIFT, 0, 3, 0, 14, 0},  {STEP, 3, HZ_LIFT, 0, 0, 0, 0, 0},
     {SOLVE, 1, 0, 0, 11, 1, 7, 12},      {SOLVE, 1, 0, 0, 12, 1, 0, 0},       {SOLVE, 1, 0, 0, 13, 1, 0, 0},
     {SOLVE, 1, 0, 0, 13, 0, 8, 1},       {SOLVE, 1, 0, 0, 12, 2, 0, 0},       {SOLVE, 1, 0, 0, 13, 2, 0, 0},
     {DEAL, 2, 0, 0, 5, 0, 7, 6},         {DEAL, 2, 0, 0, 6, 0, 0, 0},         {DEAL, 2, 0, 0, 7, 0, 0, 0},
@@ -1573,10 +1651,11 @@ static void case_of_tape_vectors(uint64_t i)
     make_values(RANDOM);
     *value(0, 0) = nonzero_element(); /* for Scale */
     make_table();
-    solution.len = size;
-    fill(solution.lent, size);
+    make_solution();
     fresh_words();
-    set_record(tape_vectors[i].step, 1, tape_vectors[i].k);
+    uint64_t j = tape_vectors[i].step == HZ_LIFT ? 2 : 1;
+    solution.lent[j - 1] = element();
+    set_record(tape_vectors[i].step, j, tape_vectors[i].k);
     make_mask(tape_vectors[i].mask);
     make_nonzero(tape_vectors[i].nonzero);
     expect(tape_vectors[i].number, tape_vectors[i].detail, 0, 0);
@@ -1655,8 +1734,7 @@ static void case_of_faults(uint64_t i)
     field = i / FAULT_SETS % 2 == 0 ? 16 : 256;
     size = sizes_of_faults[i / (FAULT_SETS * 2) / FAULT_ROUNDS];
     make_values(RANDOM);
-    solution.len = size;
-    fill(solution.lent, size);
+    make_solution();
     fresh_words();
     expect(0, 0, 0, 0);
     if (faults & LARGE_BYTE) {
@@ -2209,8 +2287,7 @@ static void case_of_flag_vectors(uint64_t i)
     for (uint64_t c = 0; c < 3; c++)
         for (uint64_t s = 0; s < shares; s++)
             wanted[c * shares + s] ^= flag_vectors[i].flag[s];
-    solution.len = size;
-    fill(solution.lent, size);
+    make_solution();
     fresh_words();
     set_record(HZ_MIX, 1, 2);
     make_nonzero(0);
@@ -2227,16 +2304,17 @@ static void case_of_flag_vectors(uint64_t i)
 
 /* ---- Counts ---- */
 
-/* 01's counts, as R-6 has them. */
+/* 01's counts, as have them. */
 static const struct {
     uint64_t field, shares, size, stops; /* the column, or 0 for a full solve */
     uint64_t steps, mask, nonzero;
 } count_vectors[] = {
-    {16, 2, 1, 0, 3, 12, 1},   {16, 2, 2, 0, 8, 36, 2},   {16, 2, 2, 1, 2, 12, 0},  {16, 2, 2, 2, 5, 28, 1},
-    {16, 3, 1, 0, 3, 37, 2},   {16, 3, 2, 0, 8, 110, 4},  {16, 3, 2, 1, 2, 36, 0},  {16, 3, 2, 2, 5, 85, 2},
-    {16, 4, 1, 0, 3, 75, 3},   {256, 2, 1, 0, 3, 14, 1},  {256, 3, 1, 0, 3, 43, 2}, {256, 3, 2, 0, 8, 128, 4},
+    {16, 2, 1, 0, 3, 12, 1},   {16, 2, 2, 0, 9, 36, 2},   {16, 2, 2, 1, 2, 12, 0},  {16, 2, 2, 2, 5, 28, 1},
+    {16, 2, 3, 0, 17, 76, 3},  {16, 2, 3, 1, 3, 21, 0},   {16, 2, 3, 2, 8, 51, 1},  {16, 2, 3, 3, 11, 67, 2},
+    {16, 3, 1, 0, 3, 37, 2},   {16, 3, 2, 0, 9, 110, 4},  {16, 3, 2, 1, 2, 36, 0},  {16, 3, 2, 2, 5, 85, 2},
+    {16, 4, 1, 0, 3, 75, 3},   {256, 2, 1, 0, 3, 14, 1},  {256, 3, 1, 0, 3, 43, 2}, {256, 3, 2, 0, 9, 128, 4},
     {256, 3, 2, 1, 2, 48, 0},  {256, 3, 2, 2, 5, 103, 2}, {256, 4, 1, 0, 3, 87, 3}, {256, 4, 1, 1, 1, 42, 0},
-    {256, 4, 96, 0, 9408, 3820512, 288},
+    {256, 4, 96, 0, 9503, 3820512, 288},
 };
 #define ALL_COUNT_VECTORS (sizeof count_vectors / sizeof count_vectors[0])
 
@@ -2251,8 +2329,7 @@ static void case_of_count_vectors(uint64_t i)
     for (uint64_t r = 0; r < size; r++)
         *value(r, r) = r + 1 == stops ? 0 : nonzero_element();
     make_table();
-    solution.len = size;
-    fill(solution.lent, size);
+    make_solution();
     fresh_words();
     if (stops == 0) {
         demand(call(COUNTS) == HZ_COUNTS, "no counts");
@@ -2281,14 +2358,14 @@ typedef struct {
 } place;
 
 /* The places in their order: the steps, behind each Check its stop, and at last done. */
-static place list[96 * (96 + 2) + 96 + 1];
+static place list[96 * 96 + 3 * 96 - 1 + 96 + 1];
 static size_t list_len;
 static uint64_t mask_drawn, nonzero_drawn, flags_drawn; /* by the steps of the list so far */
 
 static void add_place(uint64_t step, uint64_t j, uint64_t k)
 {
     list[list_len++] = (place){step, j, k, mask_drawn, nonzero_drawn, flags_drawn};
-    if (step > HZ_OPEN)
+    if (!is_step(step))
         return;
     mask_drawn += model_mask_draws(field, shares, size, step, j);
     nonzero_drawn += model_nonzero_draws(shares, step);
@@ -2307,8 +2384,11 @@ static void make_list(void)
         for (uint64_t k = j + 1; k <= size; k++)
             add_place(HZ_CLEAR, j, k);
     }
-    for (uint64_t j = size; j >= 1; j--)
+    for (uint64_t j = size; j >= 1; j--) {
         add_place(HZ_OPEN, j, 0);
+        if (j > 1)
+            add_place(HZ_LIFT, j, 0);
+    }
     add_place(HZ_AT_DONE, 0, 0);
 }
 
@@ -2438,13 +2518,13 @@ static bool stand_at(size_t at, int kind)
 static void leave_list(void)
 {
     uint64_t *r = words(&record), step = r[HZ_STEP];
-    bool pair = step == HZ_MIX || step == HZ_CLEAR;
+    bool pair = is_pair(step);
     switch (below(5)) {
     case 0:
-        r[HZ_STEP] += one_in(2) ? HZ_AT_DONE + 1 : (uint64_t)1 << (8 + below(56));
+        r[HZ_STEP] += one_in(2) ? LAST_PLACE + 1 : (uint64_t)1 << (8 + below(56));
         break;
     case 1:
-        r[HZ_J] = step == HZ_AT_DONE ? 1 + below(size) : 0;
+        r[HZ_J] = step == HZ_AT_DONE ? 1 + below(size) : step == HZ_LIFT ? below(2) : 0;
         break;
     case 2:
         r[HZ_K] = pair ? r[HZ_J] : 1 + below(size);
@@ -2461,11 +2541,12 @@ static void leave_list(void)
  * from the last of the call's order to the first, so that the first has the last word. */
 #define FAULT(number) (1u << (number))
 #define NUMBER_FAULTS (FAULT(1) | FAULT(2) | FAULT(3))
-#define LATER_THAN_11 (FAULT(6) | FAULT(7) | FAULT(14) | FAULT(8) | FAULT(15) | FAULT(9) | FAULT(12))
+#define LATER_THAN_11 (FAULT(6) | FAULT(7) | FAULT(14) | FAULT(8) | FAULT(15) | FAULT(9) | FAULT(20) | FAULT(12))
 #define STEP_FAULTS (NUMBER_FAULTS | FAULT(4) | FAULT(5) | FAULT(10) | LATER_THAN_11)
-#define LAST_FAULT 15
+#define LAST_FAULT 20
 
-/* 6, 7, 14, 8, 15, 9 and 12, of table and tapes that are right. */
+/* 6, 7, 14, 8, 15, 9, 20 and 12, of table and tapes that are right. A byte that 20 is told
+ * of at Lift in F16 is none of any other step's business. */
 static void make_later_faults(const place *p, uint32_t faults)
 {
     size_t masks = mask.len, nonzeros = nonzero.len;
@@ -2473,6 +2554,10 @@ static void make_later_faults(const place *p, uint32_t faults)
         pivot(p->j)[0] ^= pivot_value(p->j) ^ (faults & FAULT(12) ? 0 : nonzero_element());
     if (faults & FAULT(12) && p->step == HZ_SCALE)
         expect(12, p->j, p->j, 0);
+    if (p->j != 0 && (faults & FAULT(20) || p->step == HZ_LIFT))
+        solution.lent[p->j - 1] = faults & FAULT(20) ? too_large() : element();
+    if (faults & FAULT(20) && p->step == HZ_LIFT && field == 16)
+        expect(20, p->j, 0, 0);
     if (faults & FAULT(9) && nonzeros > 0) {
         size_t at = below(nonzeros);
         nonzero.lent[at] = zero_draw();
@@ -2490,7 +2575,7 @@ static void make_later_faults(const place *p, uint32_t faults)
         stretch(&mask, masks + 1 + below(3));
         expect(14, masks, 0, 0);
     }
-    if (faults & FAULT(7)) {
+    if (faults & FAULT(7) && masks > 0) {
         mask.len = below(masks);
         expect(7, masks, 0, 0);
     }
@@ -2501,7 +2586,7 @@ static void make_later_faults(const place *p, uint32_t faults)
 /* 10, 19 and 11, of a record at this place whose counters are right or not. */
 static void make_place_faults(const place *p, bool right, uint32_t faults)
 {
-    if (p->step > HZ_OPEN)
+    if (!is_step(p->step))
         expect(11, 0, 0, 0);
     if (!right)
         expect(19, 0, 0, 0);
@@ -2524,7 +2609,7 @@ static void make_number_faults(uint32_t faults)
 }
 
 static uint64_t counters_refused;
-static bool counters_met[KINDS][HZ_AT_DONE + 1]; /* refused by 19, by call and kind of place */
+static bool counters_met[KINDS][LAST_PLACE + 1]; /* refused by 19, by call and kind of place */
 
 static uint64_t call_at(int kind, const place *p)
 {
@@ -2630,8 +2715,7 @@ static void start_counters(uint64_t i)
     field = i % 2 == 0 ? 16 : 256;
     shares = 2 + i / 2 % 3;
     make_list();
-    solution.len = size;
-    fill(solution.lent, size);
+    make_solution();
     fresh_words();
 }
 
@@ -2667,7 +2751,7 @@ static void case_of_large_counters(uint64_t i)
 {
     size = sizes_of_counters[i / 6];
     start_counters(i);
-    for (uint64_t step = HZ_MIX; step <= HZ_AT_DONE; step++)
+    for (uint64_t step = HZ_MIX; step <= LAST_PLACE; step++)
         for (int round = 0; round < COUNTER_ROUNDS; round++)
             counters_at(any_of(step), false);
     counters_at(0, false);
@@ -2677,7 +2761,7 @@ static void case_of_large_counters(uint64_t i)
             wanted_at(at, kind, 0);
 }
 
-/* Examples of R-5, and 01's counts, as R-6 has them. The places of a list follow each other. */
+/* Examples of R-5, and 01's counts, as have them. The places of a list follow each other. */
 static const struct {
     uint64_t record[HZ_RECORD_WORDS];
     uint64_t number; /* by which both calls refuse it, or 0 */
@@ -2689,6 +2773,7 @@ static const struct {
     {{16, 2, 2, HZ_CHECK, 2, 0, 23, 1}, 0},
     {{16, 2, 2, HZ_SCALE, 2, 0, 28, 1}, 0},
     {{16, 2, 2, HZ_OPEN, 2, 0, 34, 2}, 0},
+    {{16, 2, 2, HZ_LIFT, 2, 0, 35, 2}, 0},
     {{16, 2, 2, HZ_OPEN, 1, 0, 35, 2}, 0},
     {{16, 2, 2, HZ_AT_DONE, 0, 0, 36, 2}, 11},
     {{16, 2, 2, HZ_AT_STOPPED, 1, 0, 12, 0}, 11},
@@ -2700,6 +2785,7 @@ static const struct {
     {{256, 3, 2, HZ_CHECK, 2, 0, 82, 2}, 0},
     {{256, 3, 2, HZ_SCALE, 2, 0, 103, 2}, 0},
     {{256, 3, 2, HZ_OPEN, 2, 0, 122, 4}, 0},
+    {{256, 3, 2, HZ_LIFT, 2, 0, 125, 4}, 0},
     {{256, 3, 2, HZ_OPEN, 1, 0, 125, 4}, 0},
     {{256, 3, 2, HZ_AT_DONE, 0, 0, 128, 4}, 11},
     {{256, 3, 2, HZ_AT_STOPPED, 1, 0, 48, 0}, 11},
@@ -2711,6 +2797,7 @@ static const struct {
     {{16, 4, 2, HZ_CHECK, 2, 0, 141, 3}, 0},
     {{16, 4, 2, HZ_SCALE, 2, 0, 171, 3}, 0},
     {{16, 4, 2, HZ_OPEN, 2, 0, 210, 6}, 0},
+    {{16, 4, 2, HZ_LIFT, 2, 0, 216, 6}, 0},
     {{16, 4, 2, HZ_OPEN, 1, 0, 216, 6}, 0},
     {{16, 4, 2, HZ_AT_DONE, 0, 0, 222, 6}, 11},
     {{16, 4, 2, HZ_AT_STOPPED, 1, 0, 72, 0}, 11},
@@ -2760,11 +2847,37 @@ static const struct {
     {{256, 4, 1, HZ_SCALE, 1, 0, 33, 0}, 19},
     {{256, 4, 1, HZ_AT_DONE, 0, 0, 78, 3}, 19},
     {{256, 4, 96, HZ_AT_DONE, 0, 0, 3778608, 288}, 19},
+    /* Lift draws nothing: what was drawn before it is what was drawn behind it */
+    {{16, 2, 2, HZ_LIFT, 2, 0, 34, 2}, 19},
+    {{16, 2, 2, HZ_LIFT, 2, 0, 36, 2}, 19},
+    {{16, 2, 2, HZ_LIFT, 2, 0, 35, 1}, 19},
+    {{16, 2, 2, HZ_OPEN, 1, 0, 34, 2}, 19},
+    {{16, 2, 2, HZ_OPEN, 1, 0, 36, 2}, 19},
+    {{256, 3, 2, HZ_LIFT, 2, 0, 122, 4}, 19},
+    {{256, 3, 2, HZ_LIFT, 2, 0, 128, 4}, 19},
+    {{256, 4, 96, HZ_LIFT, 2, 0, 3820506, 288}, 0},
+    {{256, 4, 96, HZ_OPEN, 1, 0, 3820506, 288}, 0},
+    {{256, 4, 96, HZ_AT_DONE, 0, 0, 3820512, 288}, 11},
+    {{256, 4, 96, HZ_LIFT, 96, 0, 3819936, 288}, 19},
+    {{256, 4, 96, HZ_LIFT, 96, 0, 3819948, 288}, 19},
     {{16, 2, 2, HZ_MIX, 2, 2, 0, 0}, 10},
     {{16, 2, 2, HZ_MIX, 2, 2, 20, 1}, 10},
     {{16, 2, 2, HZ_MIX, 2, 2, 23, 1}, 10},
     {{16, 2, 2, HZ_MIX, 2, 2, UINT64_MAX, UINT64_MAX}, 10},
     {{16, 2, 2, HZ_AT_STOPPED, 3, 0, 36, 2}, 10},
+    {{16, 2, 2, HZ_LIFT, 1, 0, 35, 2}, 10},
+    {{16, 2, 2, HZ_LIFT, 1, 0, 36, 2}, 10},
+    {{16, 2, 2, HZ_LIFT, 0, 0, 35, 2}, 10},
+    {{16, 2, 2, HZ_LIFT, 3, 0, 34, 2}, 10},
+    {{16, 2, 2, HZ_LIFT, 3, 0, 35, 2}, 10},
+    {{16, 2, 2, HZ_LIFT, 2, 1, 35, 2}, 10},
+    {{16, 2, 2, HZ_LIFT, 2, 2, 35, 2}, 10},
+    {{16, 2, 2, HZ_LIFT, UINT64_MAX, 0, 35, 2}, 10},
+    {{16, 2, 2, HZ_LIFT, 2, UINT64_MAX, 35, 2}, 10},
+    {{16, 2, 2, HZ_LIFT + 1, 2, 0, 35, 2}, 10},
+    {{16, 2, 1, HZ_LIFT, 1, 0, 11, 1}, 10},
+    {{16, 2, 1, HZ_LIFT, 1, 0, 12, 1}, 10},
+    {{16, 2, 1, HZ_LIFT, 2, 0, 12, 1}, 10},
 };
 #define ALL_COUNTER_VECTORS (sizeof counter_vectors / sizeof counter_vectors[0])
 
@@ -2780,6 +2893,7 @@ static void step_of_vector(size_t i, size_t next, uint8_t pivot_wanted)
     make_values(RANDOM);
     make_table();
     pivot(j)[0] ^= pivot_value(j) ^ pivot_wanted;
+    solution.lent[j - 1] = element(); /* for Lift */
     set_vector(i);
     make_tapes(STEP);
     call_expecting(STEP);
@@ -2804,8 +2918,7 @@ static void case_of_counter_vectors(uint64_t i)
     field = told[HZ_FIELD];
     shares = told[HZ_SHARES];
     size = told[HZ_SIZE];
-    solution.len = size;
-    fill(solution.lent, size);
+    make_solution();
     fresh_words();
     if (number == 0 && told[HZ_MASK_TAKEN] == 0) {
         demand(call(START) == HZ_FRESH, "no fresh record");
@@ -2949,6 +3062,435 @@ static void case_of_large_ways(uint64_t i)
     compare_ways(i % 2 == 0 ? 0 : 1 + below(size));
 }
 
+/* ---- Open and Lift (R-7) ----
+ *
+ * Open(j) opens x_j, writes it and leaves the table. Lift(j) takes byte j-1 of the solution
+ * that it is lent, whatever a host made of it, into the rows above. What the two leave is
+ * worked out here by R-7's words, and not by the model. */
+
+static uint64_t lifts_tampered[2][3]; /* with another byte than Open wrote, by field and shares */
+static uint64_t lifts_refused;        /* by 20 */
+
+/* The table becomes what Lift(j) of this byte leaves. */
+static void lift_by_hand(uint64_t j, uint8_t x)
+{
+    for (uint64_t k = 1; k < j; k++)
+        for (uint64_t s = 0; s < shares; s++)
+            cell(k, size + 1)[s] ^= model_times(field, x, cell(k, j)[s]);
+}
+
+/* Both calls at Lift(j), with record, table and solution as they are. */
+static void lift_expecting(uint64_t j)
+{
+    uint8_t kept[96], x = solution.lent[j - 1];
+    uint64_t left[] = {field, shares, size, HZ_OPEN, j - 1, 0, words(&record)[HZ_MASK_TAKEN],
+                       words(&record)[HZ_NONZERO_TAKEN]};
+    make_mask(0);
+    make_nonzero(0);
+    memcpy(kept, solution.lent, size);
+    memcpy(first_table, table.lent, table.len);
+    lift_by_hand(j, x);
+    memcpy(stepped_table, table.lent, table.len);
+    memcpy(table.lent, first_table, table.len);
+    demand(call(WANTED) == HZ_WANTED && words(&answer)[0] == 0 && words(&answer)[1] == 0, "Lift wants draws");
+    bool large = field == 16 && x >= 16;
+    expect(large ? 20 : 0, large ? j : 0, 0, 0);
+    uint64_t code = call_expecting(STEP);
+    demand(memcmp(solution.lent, kept, size) == 0, "Lift wrote into the solution");
+    lifts_refused += large;
+    if (large)
+        return;
+    demand(code == HZ_MOVED, "Lift does not answer moved");
+    demand(memcmp(table.lent, stepped_table, table.len) == 0, "another table than R-7's");
+    demand(memcmp(record.lent, left, sizeof left) == 0, "another record than at the next Open, with the same counters");
+}
+
+/* Products of 01 and of FIPS 197, each of which Lift(2) adds to a share of T[1,3]. */
+static const struct {
+    uint64_t field, shares;
+    uint8_t x, factor[4], before[4], after[4]; /* x_2, T[1,2], and T[1,3] */
+} lift_products[] = {
+    {16, 4, 2, {8, 9, 1, 0}, {5, 5, 5, 5}, {6, 4, 7, 5}},
+    {16, 2, 15, {15, 0}, {0, 10}, {10, 10}},
+    {16, 3, 7, {6, 0, 1}, {1, 2, 3}, {0, 2, 4}},
+    {256, 3, 0x83, {0x57, 0, 1}, {1, 2, 3}, {0xc0, 2, 0x80}},
+    {256, 2, 0x13, {0x57, 0x57}, {0, 0xff}, {0xfe, 0x01}},
+    {256, 4, 0x02, {0x57, 0xae, 0x47, 0x01}, {0, 0, 0, 0xf0}, {0xae, 0x47, 0x8e, 0xf2}},
+};
+#define ALL_LIFT_PRODUCTS (sizeof lift_products / sizeof lift_products[0])
+static void case_of_lift_products(uint64_t i)
+{
+    field = lift_products[i].field;
+    shares = lift_products[i].shares;
+    size = 2;
+    make_values(RANDOM);
+    make_table();
+    make_solution();
+    fresh_words();
+    memcpy(cell(1, 2), lift_products[i].factor, shares);
+    memcpy(cell(1, 3), lift_products[i].before, shares);
+    solution.lent[1] = lift_products[i].x;
+    set_record(HZ_LIFT, 2, 0);
+    lift_expecting(2);
+    demand(memcmp(cell(1, 3), lift_products[i].after, shares) == 0, "another T[1,3] than the papers' products make");
+}
+
+/* 01's rows (2,1),(1,1) with b = (1,0), dealt and solved by steps in F16 and two shares,
+ * with tapes as simple as can be, and what the host may do between Open(2) and Lift(2). */
+#define AS_OPENED (-1)
+#define TABLE_AFTER_OPEN "0d0c0a030d040c0c0c0d0e00"
+#define TABLE_AFTER_LIFT "0d0c0a030b050c0c0c0d0e00"
+static const struct {
+    int byte;                /* becomes byte 1 of the solution; its byte 0 is EE still */
+    size_t mask, nonzero;    /* lent to Lift */
+    uint64_t number, detail; /* by which it is refused; then it is done rightly */
+    const char *table;       /* in hex, after Lift */
+    uint8_t x_1;
+} lift_vectors[] = {
+    {AS_OPENED, 0, 0, 0, 0, TABLE_AFTER_LIFT, 14},
+    {5, 0, 0, 0, 0, "0d0c0a03090b0c0c0c0d0e00", 2},
+    {0, 0, 0, 0, 0, TABLE_AFTER_OPEN, 9},
+    {1, 0, 0, 0, 0, "0d0c0a0307070c0c0c0d0e00", 0},
+    {14, 0, 0, 0, 0, TABLE_AFTER_LIFT, 14},
+    {AS_OPENED, 1, 0, 14, 0, TABLE_AFTER_LIFT, 14},
+    {AS_OPENED, 0, 1, 15, 0, TABLE_AFTER_LIFT, 14},
+    {AS_OPENED, 1, 1, 14, 0, TABLE_AFTER_LIFT, 14},
+    {16, 0, 0, 20, 2, TABLE_AFTER_LIFT, 14},
+    {30, 0, 0, 20, 2, TABLE_AFTER_LIFT, 14},
+    {255, 0, 0, 20, 2, TABLE_AFTER_LIFT, 14},
+    {16, 1, 0, 14, 0, TABLE_AFTER_LIFT, 14},
+    {16, 0, 1, 15, 0, TABLE_AFTER_LIFT, 14},
+    {16, 1, 1, 14, 0, TABLE_AFTER_LIFT, 14},
+};
+#define ALL_LIFT_VECTORS (sizeof lift_vectors / sizeof lift_vectors[0])
+
+static void demand_table(const char *hex, const char *what)
+{
+    for (size_t i = 0; i < table.len; i++) {
+        unsigned byte;
+        demand(sscanf(hex + 2 * i, "%2x", &byte) == 1 && table.lent[i] == byte, what);
+    }
+}
+
+/* hz_step with these draws of tapes whose byte i is 7+9i and 1 + (2+3i) mod 15. */
+static uint64_t step_of_lift_vector(size_t masks, size_t nonzeros)
+{
+    mask.len = masks;
+    for (size_t i = 0; i < masks; i++)
+        mask.lent[i] = (uint8_t)(7 + 9 * (words(&record)[HZ_MASK_TAKEN] + i));
+    nonzero.len = nonzeros;
+    for (size_t i = 0; i < nonzeros; i++)
+        nonzero.lent[i] = (uint8_t)(1 + (2 + 3 * (words(&record)[HZ_NONZERO_TAKEN] + i)) % 15);
+    return call_expecting(STEP);
+}
+
+static void case_of_lift_vectors(uint64_t i)
+{
+    static const uint8_t values_of_01[] = {2, 1, 1, 1, 1, 0};
+    static const uint64_t at_lift[] = {16, 2, 2, HZ_LIFT, 2, 0, 35, 2};
+    field = 16;
+    shares = size = 2;
+    values.len = mask.len = sizeof values_of_01;
+    memcpy(values.lent, values_of_01, values.len);
+    for (size_t b = 0; b < mask.len; b++)
+        mask.lent[b] = (uint8_t)(3 + 5 * b);
+    table.len = 12;
+    fill(table.lent, table.len);
+    fresh_words();
+    demand(call(DEAL) == HZ_FILLED, "not dealt");
+    solution.len = 2;
+    memset(solution.lent, 0xee, 2);
+    demand(call(START) == HZ_FRESH, "no fresh record");
+    expect(0, 0, 0, 0);
+    while (words(&record)[HZ_STEP] != HZ_LIFT) {
+        demand(call(WANTED) == HZ_WANTED, "not told what the step wants");
+        step_of_lift_vector(words(&answer)[0], words(&answer)[1]);
+    }
+    demand(words(&answer)[0] == 2 && words(&answer)[1] == 14, "another x_2 than R-7's example");
+    demand(solution.lent[0] == 0xee && solution.lent[1] == 14, "another solution after Open than R-7's example");
+    demand(memcmp(record.lent, at_lift, sizeof at_lift) == 0, "another record after Open than R-7's example");
+    demand_table(TABLE_AFTER_OPEN, "another table after Open than R-7's example");
+
+    if (lift_vectors[i].byte != AS_OPENED)
+        solution.lent[1] = (uint8_t)lift_vectors[i].byte;
+    expect(lift_vectors[i].number, lift_vectors[i].detail, 0, 0);
+    step_of_lift_vector(lift_vectors[i].mask, lift_vectors[i].nonzero);
+    expect(0, 0, 0, 0);
+    if (lift_vectors[i].number != 0) {
+        solution.lent[1] = 14;
+        step_of_lift_vector(0, 0);
+    }
+    demand_table(lift_vectors[i].table, "another table after Lift than R-7's example");
+    uint8_t x_1 = lift_vectors[i].x_1;
+    demand(step_of_lift_vector(1, 0) == HZ_DONE && words(&answer)[0] == x_1 && solution.lent[0] == x_1,
+           "another x_1 than R-7's example");
+    demand_table(lift_vectors[i].table, "another table after the last Open than R-7's example");
+}
+
+/* A made-up place by Lift's number that is none: both calls refuse it by 10, though the
+ * counters are those of the last Open, or of done, and nothing else speaks against it. */
+static void no_lift_at(uint64_t j, uint64_t k)
+{
+    for (int done = 0; done < 2; done++) {
+        set_record(done ? HZ_AT_DONE : HZ_OPEN, done ? 0 : 1, 0);
+        words(&record)[HZ_STEP] = HZ_LIFT;
+        words(&record)[HZ_J] = j;
+        words(&record)[HZ_K] = k;
+        make_mask(0);
+        make_nonzero(0);
+        expect(10, 0, 0, 0);
+        call_expecting(WANTED);
+        call_expecting(STEP);
+    }
+}
+
+static void no_lifts(void)
+{
+    static const uint64_t huge[] = {97, AT_32, AT_32 + 1, AT_32 + 2, AT_63, AT_63 + 2, UINT64_MAX - 1, UINT64_MAX};
+    const uint64_t ks[] = {1, 2, size - 1, size, size + 1};
+    make_values(RANDOM);
+    make_table();
+    make_solution();
+    for (uint64_t i = 0; i < size; i++)
+        solution.lent[i] = element();
+    no_lift_at(0, 0);
+    no_lift_at(1, 0);
+    no_lift_at(size + 1, 0);
+    no_lift_at(size + 2, 0);
+    for (size_t i = 0; i < sizeof huge / sizeof huge[0]; i++) {
+        no_lift_at(huge[i], 0);
+        no_lift_at(size, huge[i]);
+    }
+    for (uint64_t j = 0; j <= size + 1; j++)
+        for (size_t i = 0; i < sizeof ks / sizeof ks[0]; i++)
+            if (ks[i] != 0)
+                no_lift_at(j, ks[i]);
+}
+
+/* Every Lift of small systems with every byte; the others of the solution are elements, or
+ * none is, or they are as it comes. And no Lift where the list has none. */
+static void case_of_lifts(uint64_t i)
+{
+    field = i % 2 == 0 ? 16 : 256;
+    shares = 2 + i / 2 % 3;
+    size = 1 + i / 6;
+    fresh_words();
+    no_lifts();
+    for (uint64_t j = 2; j <= size; j++)
+        for (unsigned byte = 0; byte < 256; byte++) {
+            make_values(RANDOM);
+            make_table();
+            make_solution();
+            for (uint64_t c = 0, none = below(2); none && c < size; c++)
+                solution.lent[c] = too_large();
+            solution.lent[j - 1] = (uint8_t)byte;
+            set_record(HZ_LIFT, j, 0);
+            lift_expecting(j);
+        }
+}
+
+/* Every set of the faults that Lift can have, and every set of those of a Scale's tapes,
+ * where the byte that Lift would refuse says nothing. */
+static const uint64_t faults_of_lift[] = {1, 2, 3, 4, 5, 10, 6, 14, 15, 20};
+static const uint64_t faults_of_scale[] = {7, 14, 8, 15, 9, 20, 12};
+
+static uint32_t fault_set(const uint64_t *numbers, uint64_t set)
+{
+    uint32_t faults = 0;
+    for (uint64_t i = 0; set >> i != 0; i++)
+        if (set >> i & 1)
+            faults |= FAULT(numbers[i]);
+    return faults;
+}
+
+#define SETS_OF(numbers) ((uint64_t)1 << sizeof(numbers) / sizeof(numbers)[0])
+static const uint64_t sizes_of_lift_faults[] = {2, 5};
+#define ALL_LIFT_FAULTS (2 * 3 * (sizeof sizes_of_lift_faults / sizeof sizes_of_lift_faults[0]))
+static void case_of_lift_faults(uint64_t i)
+{
+    size = sizes_of_lift_faults[i / 6];
+    start_counters(i);
+    make_values(RANDOM);
+    make_table();
+    memcpy(first_table, table.lent, table.len);
+    for (uint64_t set = 0; set < SETS_OF(faults_of_lift); set++) {
+        size_t at = any_of(HZ_LIFT);
+        step_at(at, 0, fault_set(faults_of_lift, set));
+        step_at(at, 1 + (int)below(COUNTER_KINDS - 1), fault_set(faults_of_lift, set));
+    }
+    for (uint64_t set = 0; set < SETS_OF(faults_of_scale); set++)
+        step_at(any_of(HZ_SCALE), 0, fault_set(faults_of_scale, set));
+}
+
+/* What a host does with the solution in a run: nothing; lends another one to each step,
+ * where only Lift's byte is what Open wrote; changes that byte, to another element, or to
+ * 0; or to any of 16 and more, which in F16 is put right when it is refused. */
+enum { UNTOUCHED, OTHER_SOLUTIONS, TAMPERED, WIPED, MADE_LARGE, HOSTS };
+
+static uint8_t opened[96], lifted[96]; /* x_j as Open told it, and as Lift found it, from 0 */
+
+static void lift_for_host(int host, uint64_t j)
+{
+    uint8_t *byte = solution.lent + (j - 1), x = *byte;
+    if (host == OTHER_SOLUTIONS)
+        for (uint64_t i = 0; i < size; i++)
+            solution.lent[i] = one_in(2) ? too_large() : (uint8_t)any();
+    *byte = host == TAMPERED ? x ^ nonzero_element() : host == WIPED ? 0 : host == MADE_LARGE ? too_large() : x;
+    uint8_t found = *byte;
+    lift_expecting(j);
+    if (field == 16 && found >= 16) {
+        *byte = found = x;
+        lift_expecting(j);
+    }
+    lifted[j - 1] = found;
+    lifts_tampered[field != 16][shares - 2] += found != x;
+}
+
+/* The Opens and Lifts of a run whose record stands at Open(m), with these draws. */
+static void run_back(int host, const uint8_t *draws)
+{
+    uint64_t pairs = shares * (shares - 1) / 2;
+    for (uint64_t j = size; j >= 1; j--, draws += pairs) {
+        uint8_t kept[96];
+        if (host == OTHER_SOLUTIONS)
+            fill(solution.lent, size);
+        memcpy(kept, solution.lent, size);
+        memcpy(first_table, table.lent, table.len);
+        mask.len = pairs;
+        memcpy(mask.lent, draws, pairs);
+        make_nonzero(0);
+        expect(0, 0, 0, 0);
+        uint64_t code = call_expecting(STEP);
+        demand(code == (j == 1 ? HZ_DONE : HZ_OPENED), "not opened");
+        demand(j == 1 || words(&answer)[0] == j, "another unknown opened");
+        kept[j - 1] = opened[j - 1] = (uint8_t)words(&answer)[j == 1 ? 0 : 1];
+        demand(memcmp(solution.lent, kept, size) == 0, "Open wrote elsewhere, or another byte than it told");
+        demand(memcmp(table.lent, first_table, table.len) == 0, "Open changed the table");
+        if (j > 1)
+            lift_for_host(host, j);
+    }
+}
+
+/* The same, and whether x_k is b_k less what was lifted into it, whatever was. */
+static void run_back_and_check(int host, const uint8_t *draws)
+{
+    for (uint64_t r = 1; r <= size; r++)
+        for (uint64_t c = 1; c <= size + 1; c++)
+            dealt_values[(r - 1) * (size + 1) + (c - 1)] = cell_value(r, c);
+    run_back(host, draws);
+    for (uint64_t r = 0; r < size; r++) {
+        uint8_t x = dealt_values[r * (size + 1) + size];
+        for (uint64_t c = r + 1; c < size; c++)
+            x ^= model_times(field, dealt_values[r * (size + 1) + c], lifted[c]);
+        demand(opened[r] == x, "another unknown than that of the bytes lifted");
+    }
+}
+
+/* Steps from a fresh record up to Open(m). Returns the mask draws taken. */
+static uint64_t run_to_open(void)
+{
+    uint64_t *r = words(&record);
+    demand(call(START) == HZ_FRESH, "no fresh record");
+    while (r[HZ_STEP] != HZ_OPEN) {
+        demand(call(WANTED) == HZ_WANTED, "not told what the step wants");
+        mask.len = words(&answer)[0];
+        nonzero.len = words(&answer)[1];
+        memcpy(mask.lent, whole_mask + r[HZ_MASK_TAKEN], mask.len);
+        memcpy(nonzero.lent, whole_nonzero + r[HZ_NONZERO_TAKEN], nonzero.len);
+        demand(call(STEP) == HZ_MOVED, "not moved on in a regular system");
+    }
+    return r[HZ_MASK_TAKEN];
+}
+
+/* Runs from a fresh record on systems with one known x. Where the host lifts what was
+ * opened, the steps come to x, and to the whole solve's solution and table; where it does
+ * not, x_m at least is right. */
+static uint8_t dealt_table[MAX_TABLE];
+
+#define RUN_SIZES 8
+#define RUN_ROUNDS 2
+#define ALL_LIFT_RUNS (HOSTS * 2 * 3 * RUN_SIZES * RUN_ROUNDS)
+static void case_of_lift_runs(uint64_t i)
+{
+    int host = (int)(i % HOSTS);
+    i /= HOSTS;
+    field = i % 2 == 0 ? 16 : 256;
+    shares = 2 + i / 2 % 3;
+    size = 1 + i / 6 % RUN_SIZES;
+    if (size == RUN_SIZES)
+        size += below(9);
+    make_regular();
+    for (uint64_t c = 0; c < size; c++)
+        known_x[c] = element();
+    make_b(known_x);
+    make_table();
+    memcpy(dealt_table, table.lent, table.len);
+    make_mask(full_mask());
+    make_nonzero(full_nonzero());
+    memcpy(whole_mask, mask.lent, mask.len);
+    memcpy(whole_nonzero, nonzero.lent, nonzero.len);
+    make_solution();
+    fresh_words();
+    uint64_t taken = run_to_open();
+    run_back_and_check(host, whole_mask + taken);
+    demand(opened[size - 1] == known_x[size - 1], "another x_m than the system was made for");
+    if (host == TAMPERED || host == WIPED || (host == MADE_LARGE && field == 256))
+        return;
+    demand(memcmp(opened, known_x, size) == 0, "another x than the system was made for");
+    demand(host != UNTOUCHED || memcmp(solution.lent, known_x, size) == 0, "another solution than x at done");
+
+    memcpy(stepped_table, table.lent, table.len);
+    memcpy(table.lent, dealt_table, table.len);
+    mask.len = full_mask();
+    nonzero.len = full_nonzero();
+    memcpy(mask.lent, whole_mask, mask.len);
+    memcpy(nonzero.lent, whole_nonzero, nonzero.len);
+    make_solution();
+    demand(call(SOLVE) == HZ_SOLVED, "not solved as a whole");
+    demand(memcmp(solution.lent, opened, size) == 0, "another solution than the steps'");
+    demand(memcmp(table.lent, stepped_table, table.len) == 0, "another table than after the steps");
+    demand(words(&answer)[0] == size * size + 3 * size - 1, "another number of steps than R-7's");
+}
+
+/* Every Open and Lift of larger systems, from a record made up at Open(m) of any table. */
+static const uint64_t sizes_of_lifts[] = {7, 16, 33, 64, 96};
+#define ALL_LARGE_LIFTS (HOSTS * 2 * 3 * (sizeof sizes_of_lifts / sizeof sizes_of_lifts[0]))
+static void case_of_large_lifts(uint64_t i)
+{
+    int host = (int)(i % HOSTS);
+    i /= HOSTS;
+    field = i % 2 == 0 ? 16 : 256;
+    shares = 2 + i / 2 % 3;
+    size = sizes_of_lifts[i / 6];
+    make_values(RANDOM);
+    make_table();
+    make_solution();
+    fresh_words();
+    set_record(HZ_OPEN, size, 0);
+    fill(whole_mask, size * shares * (shares - 1) / 2);
+    run_back_and_check(host, whole_mask);
+}
+
+/* Tells how often Lift was compared. False where that was seldom for some field and number
+ * of shares, or a byte that the host had changed seldom among them. */
+static bool tell_lifts(void)
+{
+    uint64_t sum = 0, tampered = 0, fewest = UINT64_MAX, fewest_tampered = UINT64_MAX;
+    for (int f = 0; f < 2; f++)
+        for (int n = 2; n <= 4; n++) {
+            uint64_t made = lifts_made[f][n - 2], other = lifts_tampered[f][n - 2];
+            sum += made;
+            tampered += other;
+            fewest = made < fewest ? made : fewest;
+            fewest_tampered = other < fewest_tampered ? other : fewest_tampered;
+        }
+    printf("Lift was compared %" PRIu64 " times, with another byte than Open wrote %" PRIu64
+           ", in each field and number of shares at least %" PRIu64 " and %" PRIu64 "; its byte was refused %" PRIu64
+           " times\n",
+           sum, tampered, fewest, fewest_tampered, lifts_refused);
+    return fewest >= 1000 && fewest_tampered >= 400 && lifts_refused >= 5000;
+}
+
 /* Tells how often flags of three and four shares were compared. False where that was
  * seldom for some field and number of shares. */
 static bool tell_flags(void)
@@ -2974,13 +3516,14 @@ static void look_back(void)
     for (uint64_t s = 0; s < 8; s++)
         for (uint64_t c = 0; c <= s; c++)
             all_met &= stop_met[s][c];
-    for (uint64_t step = HZ_MIX; step <= HZ_AT_DONE; step++)
+    for (uint64_t step = HZ_MIX; step <= LAST_PLACE; step++)
         all_met &= counters_met[WANTED][step] && counters_met[STEP][step];
     printf("three ways agree on %" PRIu64 " systems, of which %" PRIu64 " are singular\n", systems, singular_systems);
     printf("%" PRIu64 " exchange records were made up, of which %" PRIu64 " are damaged\n", made_up_records,
            damaged_records);
     printf("%" PRIu64 " records of a right place had wrong counters\n", counters_refused);
     bool often = tell_flags();
+    often &= tell_lifts();
     if (systems >= 20000 && 2 * singular_systems == systems && all_met && made_up_records >= 50000 && often)
         return;
     printf("these are too few, or not half, or a column of some size was never the first, or a kind of place never had "
@@ -3046,6 +3589,10 @@ static const struct {
 } cases[] = {
     {ALL_SMALL, case_of_places},
     {ALL_FLAG_VECTORS, case_of_flag_vectors},
+    {ALL_LIFT_PRODUCTS, case_of_lift_products},
+    {ALL_LIFT_VECTORS, case_of_lift_vectors},
+    {ALL_SMALL, case_of_lifts},
+    {ALL_LIFT_RUNS, case_of_lift_runs},
     {ALL_COUNTER_VECTORS, case_of_counter_vectors},
     {ALL_LENGTHS, case_of_lengths},
     {ALL_CELL_VECTORS, case_of_cell_vectors},
@@ -3053,6 +3600,7 @@ static const struct {
     {ALL_TAPE_VECTORS, case_of_tape_vectors},
     {ALL_TAPES, case_of_tapes},
     {ALL_SMALL, case_of_counters},
+    {ALL_LIFT_FAULTS, case_of_lift_faults},
     {ALL_COUNT_VECTORS, case_of_count_vectors},
     {ALL_SIZES, case_of_sizes},
     {ALL_REFUSED_SHARES, case_of_refused_shares},
@@ -3066,6 +3614,7 @@ static const struct {
     {ALL_WAYS, case_of_ways},
     {RANDOM_CASES, case_random},
     {ALL_LARGE_COUNTERS, case_of_large_counters},
+    {ALL_LARGE_LIFTS, case_of_large_lifts},
     {ALL_LARGE_WAYS, case_of_large_ways},
     {ALL_LARGE, case_large},
 };

@@ -187,7 +187,7 @@ static bool inversion(task *t, sharing a, uint8_t factors[4])
     return true;
 }
 
-/* ---- The five steps ---- */
+/* ---- The steps ---- */
 
 static void mix(task *t, uint64_t j, uint64_t k)
 {
@@ -220,12 +220,18 @@ static void clear(task *t, uint64_t j, uint64_t k)
         put(t, k, c, plus(t, get(t, k, c), product(t, copy, get(t, j, c))));
 }
 
+/* it only opens x_j, and the table stays as it is. */
 static uint8_t open_unknown(task *t, uint64_t j)
 {
-    uint8_t x = opening(t, get(t, j, t->m + 1));
+    return opening(t, get(t, j, t->m + 1));
+}
+
+/* carries x_j, as it stands in the solution, into the rows above. */
+static void lift(task *t, uint64_t j, const uint8_t *solution)
+{
+    uint8_t x = solution[j - 1];
     for (uint64_t k = 1; k < j; k++)
         put(t, k, t->m + 1, plus(t, get(t, k, t->m + 1), scaled(t, get(t, k, j), x)));
-    return x;
 }
 
 /* ---- The plain answer, by a basis of columns ----
@@ -312,6 +318,8 @@ uint64_t model_mask_draws(uint64_t field, uint64_t n, uint64_t m, uint64_t step,
         return (n - 1) * (n - 1) + pairs + n * (n - 1) * columns;
     case HZ_CLEAR:
         return columns * pairs;
+    case HZ_LIFT:
+        return 0; /* */
     default:
         return pairs; /* Open */
     }
@@ -329,7 +337,7 @@ uint64_t model_full_mask_draws(uint64_t field, uint64_t n, uint64_t m)
         for (uint64_t k = j + 1; k <= m; k++)
             sum += model_mask_draws(field, n, m, HZ_MIX, j) + model_mask_draws(field, n, m, HZ_CLEAR, j);
         sum += model_mask_draws(field, n, m, HZ_CHECK, j) + model_mask_draws(field, n, m, HZ_SCALE, j)
-               + model_mask_draws(field, n, m, HZ_OPEN, j);
+               + model_mask_draws(field, n, m, HZ_OPEN, j); /* Lift has none */
     }
     return sum;
 }
@@ -359,8 +367,8 @@ static bool ends_at(way *w, uint64_t step, uint64_t j, uint64_t k)
     return false;
 }
 
-/* Goes along the list as 01 has it; false where the place is not met. A stop at column
- * j stands right behind Check(j), and done behind the last step. */
+/* Goes along the list as 01 and R-7 have it; false where the place is not met. A stop at
+ * column j stands right behind Check(j), and done behind the last step. */
 static bool go_along(way *w)
 {
     for (uint64_t j = 1; j <= w->m; j++) {
@@ -374,7 +382,7 @@ static bool go_along(way *w)
                 return true;
     }
     for (uint64_t j = w->m; j >= 1; j--)
-        if (ends_at(w, HZ_OPEN, j, 0))
+        if (ends_at(w, HZ_OPEN, j, 0) || (j > 1 && ends_at(w, HZ_LIFT, j, 0)))
             return true;
     return is_end(w, HZ_AT_DONE, 0, 0);
 }
@@ -538,9 +546,12 @@ static void move_on(uint64_t *record)
         break;
     case HZ_OPEN:
         if (j > 1)
-            set_place(record, HZ_OPEN, j - 1, 0);
+            set_place(record, HZ_LIFT, j, 0);
         else
             set_place(record, HZ_AT_DONE, 0, 0);
+        break;
+    case HZ_LIFT:
+        set_place(record, HZ_OPEN, j - 1, 0);
         break;
     }
 }
@@ -707,6 +718,8 @@ uint64_t model_step(uint64_t *record, size_t record_len,
     size_t zero = first_zero_draw(field, nonzero, nonzero_len);
     if (zero < nonzero_len)
         return refuse(answer, 9, zero);
+    if (step == HZ_LIFT && field == 16 && solution[j - 1] >= 16)
+        return refuse(answer, 20, j);
 
     task t = {field, n, m, table, {mask, 0}, {nonzero, 0}};
     bool stops = false;
@@ -726,6 +739,9 @@ uint64_t model_step(uint64_t *record, size_t record_len,
         break;
     case HZ_OPEN:
         solution[j - 1] = open_unknown(&t, j);
+        break;
+    case HZ_LIFT:
+        lift(&t, j, solution);
         break;
     }
     record[HZ_MASK_TAKEN] += t.mask.taken;
@@ -758,8 +774,14 @@ static uint64_t run_list(task *t, uint8_t *solution, uint64_t *steps)
         for (uint64_t k = j + 1; k <= t->m; k++, ++*steps)
             clear(t, j, k);
     }
-    for (uint64_t j = t->m; j >= 1; j--, ++*steps)
+    for (uint64_t j = t->m; j >= 1; j--) {
+        ++*steps;
         solution[j - 1] = open_unknown(t, j);
+        if (j == 1)
+            break; /* there is no Lift(1) */
+        ++*steps;
+        lift(t, j, solution);
+    }
     return 0;
 }
 
@@ -889,7 +911,7 @@ uint64_t model_counts(uint64_t field, uint64_t n, uint64_t m, uint64_t *answer, 
     uint64_t detail, bad = bad_number(field, n, m, &detail);
     if (bad)
         return refuse(answer, bad, detail);
-    return say(HZ_COUNTS, answer, m * (m + 2), model_full_mask_draws(field, n, m), m * (n - 1), 0);
+    return say(HZ_COUNTS, answer, m * m + 3 * m - 1, model_full_mask_draws(field, n, m), m * (n - 1), 0);
 }
 
 uint64_t model_write(uint64_t field, uint64_t n, uint64_t m,

@@ -1,4 +1,4 @@
-/* An independent C implementation of the paper 01, and of R-1, R-2, R-3, R-5 and R-6 in
+/* An independent C implementation of the paper 01, and of R-1 to R-3 and R-5 to R-7 in
  * 02, for the calls of hostozaro.h: each model_X answers as hz_X must. Written from the
  * papers alone (model_wanted, which they have not, and the words of an answer and of a
  * record from hostozaro.h), for clarity, and used only to compare. */
@@ -63,7 +63,7 @@ uint64_t model_read(const uint8_t *input, size_t input_len,
 /* The product of two elements of the field (16 or 256). */
 uint8_t model_times(uint64_t field, uint8_t a, uint8_t b);
 
-/* The draws of one step of the list, by the paper's table and R-6. */
+/* The draws of one step of the list, by the paper's table, R-6 and R-7. */
 uint64_t model_mask_draws(uint64_t field, uint64_t shares, uint64_t size, uint64_t step, uint64_t j);
 uint64_t model_nonzero_draws(uint64_t shares, uint64_t step);
 

@@ -99,6 +99,45 @@
  *     01's counters CALL       takes a record that counts so many for right
  *     adds 01's draws          hz_step counts so many
  *
+ * and of R-7:
+ *
+ *     Open lifts               Open carries x_j into the rows above, as before R-7; Lift does it once more
+ *     own lift                 Lift is done by this file, which is no fault
+ *     lifts nothing            this one leaves the table
+ *     lifts all rows           this one takes row j too
+ *     not row 1                this one leaves the first row
+ *     below the diagonal       this one takes T[j,k] for T[k,j]
+ *     first share alone        this one puts all that is to be added into share 1
+ *     lifts the table's value  it takes T[j,m+1] for x_j, and not the lent byte
+ *     lifts what Open told     it remembers x_j from the call before
+ *     lifts the next byte      it takes the byte of x_(j+1), of x_1 for the last
+ *     Lift writes              it changes its byte of the solution
+ *     Lift writes ahead        it empties the byte of x_(j-1)
+ *     Lift opens               it answers opened
+ *     Lift draws               it wants N mask draws, as Open does
+ *     Lift draws hz_wanted     this one tells so
+ *     skips Open               Lift(j) leads to Lift(j-1)
+ *     skips Lift               Open(j) leads to Open(j-1), as before R-7
+ *     Lift at last             Open(1) leads to Lift(1)
+ *     Lift is 5                the record's number for Lift is 5
+ *     counts at Lift           Lift adds N to the mask counter
+ *     counts late              Open does not, and Lift would
+ *     Lift(1) CALL             hz_wanted or hz_step takes Lift(1) for a place
+ *     Lift(m+1) CALL           and Lift(m+1)
+ *     Lift with k CALL         and Lift(j) with a k
+ *     forgets 20               Lift takes a byte of 16 or more, modulo 16
+ *     20 from 17               and only 16 itself
+ *     20 in F256               Lift refuses such a byte there too
+ *     20 of every byte         it looks at all bytes of the solution
+ *     20 of the next byte      it looks at the byte of x_(j+1), of x_1 for the last
+ *     20 at Open               Open refuses such a byte too
+ *     detail j-1               20 tells the byte's place
+ *     20 and the byte          it tells the byte too
+ *     20 late                  the table is lifted when it refuses
+ *     20 before 14, 20 before 15, 20 before 6, 20 before 19, 20 before 10
+ *     20 before 9              20 is told of Scale's byte, where it is 9's turn
+ *     old list CALL            hz_counts or hz_solve tells the steps without those of Lift
+ *
  * Linked with --wrap for every call. */
 #include "hostozaro.h"
 #include "model.h"
@@ -237,6 +276,11 @@ static bool right_numbers(uint64_t field, uint64_t n, uint64_t m)
     return (field == 16 || field == 256) && n >= 2 && n <= 4 && m >= 1 && m <= 96;
 }
 
+static bool ended(const uint64_t *record)
+{
+    return record[HZ_STEP] == HZ_AT_STOPPED || record[HZ_STEP] == HZ_AT_DONE;
+}
+
 /* The mask tape that hz_step goes on with. */
 static const uint8_t *step_tape(const uint64_t *record, const uint8_t *mask, size_t mask_len)
 {
@@ -304,7 +348,7 @@ static bool overlooked(const char *call, const uint64_t *record)
 {
     uint64_t mask = record[HZ_MASK_TAKEN], nonzero = record[HZ_NONZERO_TAKEN], right[2], low = UINT64_MAX >> 1;
     right_counters(record, right);
-    return fault_at("forgets 19", call) || (fault_at("19 after 11", call) && record[HZ_STEP] > HZ_OPEN)
+    return fault_at("forgets 19", call) || (fault_at("19 after 11", call) && ended(record))
            || (fault_at("mask read alone", call) && mask == right[0])
            || (fault_at("nonzero read alone", call) && nonzero == right[1])
            || (fault_at("sum alone", call) && mask + nonzero == right[0] + right[1])
@@ -349,6 +393,136 @@ uint64_t __wrap_hz_start(uint64_t field, uint64_t shares, uint64_t size, uint64_
     return code;
 }
 
+/* Whether a call takes a record that is refused by 10 for one at Lift. */
+static bool taken_for_lift(const char *call, const uint64_t *record)
+{
+    uint64_t m = record[HZ_SIZE], j = record[HZ_J], k = record[HZ_K];
+    if (record[HZ_STEP] != HZ_LIFT)
+        return false;
+    return (fault_at("Lift(1)", call) && j == 1 && k == 0) || (fault_at("Lift(m+1)", call) && j == m + 1 && k == 0)
+           || (fault_at("Lift with k", call) && j >= 2 && j <= m && k != 0);
+}
+
+/* Whether a record stands at this step, of the numbers that table and solution have. */
+static bool stands_at(uint64_t step, const uint64_t *record, size_t table_len, size_t solution_len)
+{
+    uint64_t n = record[HZ_SHARES], m = record[HZ_SIZE], j = record[HZ_J];
+    return right_numbers(record[HZ_FIELD], n, m) && record[HZ_STEP] == step && j >= 1 && j <= m
+           && table_len == m * (m + 1) * n && solution_len == m;
+}
+
+static uint8_t *cell(const uint64_t *record, uint8_t *table, uint64_t row, uint64_t column)
+{
+    return table + ((row - 1) * (record[HZ_SIZE] + 1) + (column - 1)) * record[HZ_SHARES];
+}
+
+/* Takes x times T[k,j] from T[k,m+1] in the rows above, or does it wrong. */
+static void lift(const uint64_t *record, uint8_t *table, uint8_t x)
+{
+    uint64_t field = record[HZ_FIELD], n = record[HZ_SHARES], m = record[HZ_SIZE], j = record[HZ_J];
+    uint64_t first = fault("not row 1") ? 2 : 1, last = fault("lifts all rows") ? j : j - 1;
+    for (uint64_t k = first; k <= last && !fault("lifts nothing"); k++)
+        for (uint64_t s = 0; s < n; s++) {
+            uint8_t factor = fault("below the diagonal") ? cell(record, table, j, k)[s] : cell(record, table, k, j)[s];
+            cell(record, table, k, m + 1)[fault("first share alone") ? 0 : s] ^= model_times(field, x, factor);
+        }
+}
+
+static bool wrong_lift(void)
+{
+    return fault("own lift") || fault("lifts nothing") || fault("lifts all rows") || fault("not row 1")
+           || fault("below the diagonal") || fault("first share alone");
+}
+
+/* What stands in the byte of the next unknown, or of x_1 behind the last. */
+static uint8_t next_byte(const uint64_t *record, const uint8_t *solution)
+{
+    return solution[record[HZ_J] % record[HZ_SIZE]];
+}
+
+/* What the last call of hz_step opened, and of which unknown; 0 where it was no Open. */
+static uint64_t remembered_j;
+static uint8_t remembered;
+
+/* The byte that Lift goes on with in place of the lent one; that is left where it is one to be refused. */
+static uint8_t byte_for_lift(const uint64_t *record, uint8_t *table, const uint8_t *solution)
+{
+    uint64_t field = record[HZ_FIELD], m = record[HZ_SIZE], j = record[HZ_J];
+    uint8_t lent = solution[j - 1], value = 0;
+    if (field == 16 && lent >= 16)
+        return fault("forgets 20") || (fault("20 from 17") && lent == 16) ? lent % 16 : lent;
+    for (uint64_t s = 0; s < record[HZ_SHARES]; s++)
+        value ^= cell(record, table, j, m + 1)[s];
+    if (fault("lifts the table's value"))
+        return (uint8_t)(value % field);
+    if (fault("lifts what Open told") && remembered_j == j)
+        return remembered;
+    if (fault("lifts the next byte"))
+        return (uint8_t)(next_byte(record, solution) % field);
+    return lent;
+}
+
+/* An accepted Lift becomes refused, or answers otherwise. Record and solution are as they were before. */
+static uint64_t spoil_lift(uint64_t code, const uint64_t *record, const uint8_t *solution, uint64_t *answer)
+{
+    uint64_t n = record[HZ_SHARES], m = record[HZ_SIZE], j = record[HZ_J];
+    bool large = fault("20 in F256") && record[HZ_FIELD] == 256 && solution[j - 1] >= 16;
+    for (uint64_t i = 0; i < m && record[HZ_FIELD] == 16; i++)
+        large = large || (fault("20 of every byte") && solution[i] >= 16);
+    if (fault("20 of the next byte") && record[HZ_FIELD] == 16 && next_byte(record, solution) >= 16)
+        large = true;
+    if (large)
+        return told(HZ_REFUSED, answer, 20, j, 0, 0);
+    if (fault("Lift draws"))
+        return told(HZ_REFUSED, answer, 7, n * (n - 1) / 2, 0, 0);
+    if (fault("Lift opens"))
+        return told(HZ_OPENED, answer, j, solution[j - 1], 0, 0);
+    return code;
+}
+
+/* The record that an accepted Open or Lift leaves becomes wrong. */
+static void spoil_next(const uint64_t *before, uint64_t *record)
+{
+    uint64_t pairs = before[HZ_SHARES] * (before[HZ_SHARES] - 1) / 2, j = before[HZ_J];
+    bool from_open = before[HZ_STEP] == HZ_OPEN, from_lift = before[HZ_STEP] == HZ_LIFT;
+    if (fault("skips Open") && from_lift)
+        record[HZ_STEP] = HZ_LIFT;
+    if (fault("skips Lift") && from_open && j > 1) {
+        record[HZ_STEP] = HZ_OPEN;
+        record[HZ_J] = j - 1;
+    }
+    if (fault("Lift at last") && from_open && j == 1) {
+        record[HZ_STEP] = HZ_LIFT;
+        record[HZ_J] = 1;
+    }
+    if (fault("Lift is 5") && record[HZ_STEP] == HZ_LIFT)
+        record[HZ_STEP] = 5;
+    if (fault("counts at Lift") && from_lift)
+        record[HZ_MASK_TAKEN] += pairs;
+    if (fault("counts late") && from_open && j > 1)
+        record[HZ_MASK_TAKEN] -= pairs;
+}
+
+/* A refusal by 20 is told wrong, or one by a number before it becomes 20. */
+static void spoil_20(const uint64_t *record, size_t table_len, const uint8_t *solution, size_t solution_len,
+                     uint64_t *answer)
+{
+    uint64_t number = answer[0], j = record[HZ_J];
+    bool at_lift = stands_at(HZ_LIFT, record, table_len, solution_len);
+    bool at_scale = stands_at(HZ_SCALE, record, table_len, solution_len);
+    if ((!at_lift && !at_scale) || record[HZ_FIELD] != 16 || solution[j - 1] < 16)
+        return;
+    if (fault("detail j-1") && number == 20)
+        answer[1] = j - 1;
+    if (fault("20 and the byte") && number == 20)
+        answer[2] = solution[j - 1];
+    bool sooner = (fault("20 before 14") && number == 14) || (fault("20 before 15") && number == 15)
+                  || (fault("20 before 6") && number == 6) || (fault("20 before 19") && number == 19)
+                  || (fault("20 before 10") && number == 10);
+    if ((at_lift && sooner) || (at_scale && fault("20 before 9") && number == 9))
+        told(HZ_REFUSED, answer, 20, j, 0, 0);
+}
+
 uint64_t __real_hz_wanted(const uint64_t *, size_t, uint64_t *, size_t);
 uint64_t __wrap_hz_wanted(const uint64_t *record, size_t record_len, uint64_t *answer, size_t answer_len)
 {
@@ -366,6 +540,10 @@ uint64_t __wrap_hz_wanted(const uint64_t *record, size_t record_len, uint64_t *a
     }
     if (fault("01's draws hz_wanted") && code == HZ_WANTED)
         answer[0] -= more_in_step(record);
+    if (fault("Lift draws hz_wanted") && code == HZ_WANTED && record[HZ_STEP] == HZ_LIFT)
+        answer[0] = record[HZ_SHARES] * (record[HZ_SHARES] - 1) / 2;
+    if (code == HZ_REFUSED && answer[0] == 10 && taken_for_lift("hz_wanted", record))
+        return told(HZ_WANTED, answer, 0, 0, 0, 0);
     if (code == HZ_REFUSED && answer[0] == 19 && overlooked("hz_wanted", record)) {
         uint64_t other[HZ_RECORD_WORDS];
         memcpy(other, record, sizeof other);
@@ -443,7 +621,7 @@ static void spoil_order(const uint64_t *record, const uint8_t *table, size_t tab
     bool wrong = record[HZ_MASK_TAKEN] != right[0] || record[HZ_NONZERO_TAKEN] != right[1];
     if (fault("19 before 5") && number == 5 && wrong)
         told(HZ_REFUSED, answer, 19, 0, 0, 0);
-    if (number == 5 || step > HZ_OPEN)
+    if (number == 5 || ended(record))
         return;
     uint64_t mask = model_mask_draws(record[HZ_FIELD], record[HZ_SHARES], record[HZ_SIZE], step, j);
     if (fault("19 after 6") && record[HZ_FIELD] == 16 && first_large(table, table_len) < table_len)
@@ -471,14 +649,52 @@ uint64_t __wrap_hz_step(uint64_t *record, size_t record_len, uint8_t *table, siz
         memcpy(before, record, sizeof before);
     if (record_len == HZ_RECORD_WORDS && answer_len == HZ_ANSWER_WORDS)
         mask = step_tape(record, mask, mask_len);
+    static uint8_t table_before[96 * 97 * 4];
+    uint8_t solution_before[96], *byte = NULL; /* Open's or Lift's in the solution */
+    bool at_lift = stands_at(HZ_LIFT, before, table_len, solution_len);
+    bool at_open = stands_at(HZ_OPEN, before, table_len, solution_len);
+    if (at_lift || at_open) {
+        byte = solution + (before[HZ_J] - 1);
+        memcpy(solution_before, solution, solution_len);
+        memcpy(table_before, table, table_len);
+    }
+    bool other_byte = at_lift && byte_for_lift(before, table, solution) != *byte;
+    if (other_byte)
+        *byte = byte_for_lift(before, table, solution);
     uint64_t code = __real_hz_step(record, record_len, table, table_len, solution, solution_len, mask, mask_len,
                                    nonzero, nonzero_len, answer, answer_len);
+    if (other_byte)
+        *byte = solution_before[before[HZ_J] - 1];
     if (code == HZ_BAD_WORDS)
         return code;
+    remembered_j = code != HZ_REFUSED && at_open ? before[HZ_J] : 0;
+    if (code != HZ_REFUSED && at_open) {
+        remembered = *byte;
+        if (fault("Open lifts"))
+            lift(before, table, *byte);
+        if (fault("20 at Open") && before[HZ_FIELD] == 16 && solution_before[before[HZ_J] - 1] >= 16)
+            return told(HZ_REFUSED, answer, 20, before[HZ_J], 0, 0);
+    }
+    if (code != HZ_REFUSED && at_lift) {
+        code = spoil_lift(code, before, solution_before, answer);
+        if (wrong_lift()) {
+            memcpy(table, table_before, table_len);
+            lift(before, table, *byte);
+        }
+        if (fault("Lift writes"))
+            *byte ^= 1;
+        if (fault("Lift writes ahead"))
+            byte[-1] = 0;
+    }
     if (code != HZ_REFUSED) {
         spoil_counters(code, before, record);
+        spoil_next(before, record);
         return code;
     }
+    if (answer[0] == 10 && taken_for_lift("hz_step", record))
+        return told(HZ_MOVED, answer, 0, 0, 0, 0);
+    if (fault("20 late") && answer[0] == 20)
+        lift(before, table, *byte % 16);
     if (answer[0] == 19 && overlooked("hz_step", record)) {
         right_counters(record, record + HZ_MASK_TAKEN);
         code = __real_hz_step(record, record_len, table, table_len, solution, solution_len, mask, mask_len, nonzero,
@@ -504,6 +720,7 @@ uint64_t __wrap_hz_step(uint64_t *record, size_t record_len, uint8_t *table, siz
     spoil_step(record, mask_len, nonzero_len, answer);
     spoil_order(record, table, table_len, mask_len, answer);
     spoil_place("hz_step", record, answer);
+    spoil_20(before, table_len, solution, solution_len, answer);
     return HZ_REFUSED;
 }
 
@@ -545,6 +762,8 @@ uint64_t __wrap_hz_solve(uint64_t field, uint64_t shares, uint64_t size, uint8_t
         return told(HZ_REFUSED, answer, 15, size * (shares - 1), 0, 0);
     if (code != HZ_BAD_WORDS)
         code = spoil_sum(code, field, shares, size, mask_len, answer);
+    if (fault("old list hz_solve") && code == HZ_SOLVED)
+        answer[0] = size * (size + 2);
     if (code == HZ_REFUSED)
         spoil_cell("hz_solve", shares, size, answer);
     return code;
@@ -711,6 +930,8 @@ uint64_t __wrap_hz_counts(uint64_t field, uint64_t shares, uint64_t size, uint64
     uint64_t code = __real_hz_counts(field, shares, size, answer, answer_len);
     if (fault("01's draws hz_counts") && code == HZ_COUNTS)
         answer[1] -= more_before((uint64_t[]){field, shares, size, HZ_AT_DONE, 0, 0});
+    if (fault("old list hz_counts") && code == HZ_COUNTS)
+        answer[0] = size * (size + 2);
     return code;
 }
 

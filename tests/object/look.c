@@ -25,8 +25,9 @@ typedef struct {
 } scene;
 
 static const scene scenes[] = {
-    {HZ_MIX, 4, 2, 4},    {HZ_CHECK, 4, 2, 0},  {HZ_SCALE, 4, 2, 0},  {HZ_CLEAR, 4, 2, 3}, {HZ_OPEN, 4, 3, 0},
-    {HZ_MIX, 35, 1, 2},   {HZ_SCALE, 35, 1, 0}, {HZ_CLEAR, 35, 1, 2}, {HZ_OPEN, 35, 35, 0}, {WHOLE, 3, 0, 0},
+    {HZ_MIX, 4, 2, 4},    {HZ_CHECK, 4, 2, 0},  {HZ_SCALE, 4, 2, 0},  {HZ_CLEAR, 4, 2, 3},
+    {HZ_OPEN, 4, 3, 0},   {HZ_LIFT, 4, 3, 0},   {HZ_MIX, 35, 1, 2},   {HZ_SCALE, 35, 1, 0},
+    {HZ_CLEAR, 35, 1, 2}, {HZ_OPEN, 35, 35, 0}, {HZ_LIFT, 35, 35, 0}, {WHOLE, 3, 0, 0},
 };
 
 static x86 *machine;
@@ -165,7 +166,7 @@ static void make_same_opened(void)
             in->values[pivot] = inputs[0].values[pivot] == 0 ? 0 : not_zero();
         else if (now->step == HZ_SCALE)
             in->values[pivot] = opening_to(u, in);
-        else if (now->step == HZ_OPEN)
+        else if (now->step == HZ_OPEN || now->step == HZ_LIFT)
             in->values[last] = inputs[0].values[last];
         deal(in);
     }
@@ -183,11 +184,20 @@ static void first_record(uint64_t record[HZ_RECORD_WORDS])
                     &record[HZ_NONZERO_TAKEN]);
 }
 
+/* The solution likewise: Lift(j) is lent the x_j that Open(j) has written, which is the
+ * value of T[j,m+1]. The other steps look at none of it. */
+static void first_solution(const input *in, uint8_t solution[96])
+{
+    memset(solution, 0, 96);
+    if (now->step == HZ_LIFT)
+        solution[now->j - 1] = in->values[entry_number(now->j, size.m + 1)];
+}
+
 static uint64_t model_outcome(const input *in, uint8_t *table, uint8_t *solution, uint64_t *record)
 {
     uint64_t answer[4];
     memcpy(table, in->table, table_len);
-    memset(solution, 0, size.m);
+    first_solution(in, solution);
     first_record(record);
     if (now->step == WHOLE)
         return model_solve(size.field, size.n, size.m, table, table_len, solution, size.m, in->mask, mask_len,
@@ -200,12 +210,13 @@ static uint64_t model_outcome(const input *in, uint8_t *table, uint8_t *solution
 static void call(const input *in, bool values, trace *t)
 {
     uint64_t record[HZ_RECORD_WORDS], code, empty[4] = {0};
-    uint8_t table[ROOM], solution[96], wanted_table[ROOM], wanted_solution[96] = {0};
+    uint8_t table[ROOM], solution[96], wanted_table[ROOM], wanted_solution[96];
     first_record(record);
+    first_solution(in, solution);
     x86_reset(machine);
     uint64_t at_record = x86_lend(machine, record, sizeof record);
     uint64_t at_table = x86_lend(machine, in->table, table_len);
-    uint64_t at_solution = x86_lend(machine, wanted_solution, size.m);
+    uint64_t at_solution = x86_lend(machine, solution, size.m);
     uint64_t at_mask = x86_lend(machine, in->mask, mask_len);
     uint64_t at_nonzero = x86_lend(machine, in->nonzero, nonzero_len);
     uint64_t at_answer = x86_lend(machine, empty, sizeof empty);
@@ -262,7 +273,8 @@ static bool all_alike(void)
 
 static const char *step_text(uint64_t step, uint64_t j, uint64_t k)
 {
-    static const char *const names[] = {"Mix", "Check", "Scale", "Clear", "Open"};
+    static const char *const names[] = {[HZ_MIX] = "Mix",     [HZ_CHECK] = "Check", [HZ_SCALE] = "Scale",
+                                        [HZ_CLEAR] = "Clear", [HZ_OPEN] = "Open",   [HZ_LIFT] = "Lift"};
     static char text[64];
     if (step == WHOLE)
         snprintf(text, sizeof text, "whole solve");
@@ -325,6 +337,7 @@ static void walk(int r, visitor *visit)
     uint8_t table[ROOM], solution[96];
     const uint8_t *mask = inputs[r].mask, *nonzero = inputs[r].nonzero;
     memcpy(table, inputs[r].table, table_len);
+    first_solution(&inputs[r], solution);
     if (now->step == WHOLE)
         model_start(size.field, size.n, size.m, record, HZ_RECORD_WORDS, answer, 4);
     else
@@ -334,7 +347,7 @@ static void walk(int r, visitor *visit)
         rule rules[MAX_RULES];
         uint64_t masks = model_mask_draws(size.field, size.n, size.m, record[HZ_STEP], record[HZ_J]);
         uint64_t nonzeros = model_nonzero_draws(size.n, record[HZ_STEP]);
-        at = visit(r, at, record, rules, rules_of(&size, record, table, mask, nonzero, rules));
+        at = visit(r, at, record, rules, rules_of(&size, record, table, solution, mask, nonzero, rules));
         code = model_step(record, HZ_RECORD_WORDS, table, table_len, solution, size.m, mask, masks, nonzero, nonzeros,
                           answer, 4);
         mask += masks;

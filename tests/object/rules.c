@@ -162,10 +162,13 @@ static void add_scale(list *l, uint64_t j, const uint8_t *nonzero)
         }
 }
 
-static void add_open(list *l, uint64_t j)
+/* R-7: x comes from the solution. So the shares that it was opened of stay as they are,
+ * and a sum of some of them is no more allowed here than in the Opening. */
+static void add_lift(list *l, uint64_t j, uint8_t x)
 {
     uint64_t last = l->s->m + 1;
-    uint8_t x = add_opening(l, entry(l, j, last), 0), times_x[4];
+    uint8_t times_x[4];
+    add_rule(l, OPENED, entry(l, j, last))->opened = 'a';
     for (uint64_t k = 1; k < j; k++) {
         for (size_t i = 0; i < l->s->n; i++)
             times_x[i] = model_times(l->s->field, x, entry(l, k, j)[i]);
@@ -176,8 +179,8 @@ static void add_open(list *l, uint64_t j)
     }
 }
 
-size_t rules_of(const sizes *s, const uint64_t *record, const uint8_t *table, const uint8_t *mask,
-                const uint8_t *nonzero, rule *out)
+size_t rules_of(const sizes *s, const uint64_t *record, const uint8_t *table, const uint8_t *solution,
+                const uint8_t *mask, const uint8_t *nonzero, rule *out)
 {
     list l = {s, table, mask, out, 0};
     uint64_t j = record[HZ_J], k = record[HZ_K];
@@ -193,7 +196,8 @@ size_t rules_of(const sizes *s, const uint64_t *record, const uint8_t *table, co
         break;
     case HZ_SCALE: add_scale(&l, j, nonzero); break;
     case HZ_CLEAR: add_products(&l, entry(&l, k, j), k, j, j); break;
-    default: add_open(&l, j); break;
+    case HZ_OPEN: add_opening(&l, entry(&l, j, s->m + 1), 0); break;
+    default: add_lift(&l, j, solution[j - 1]); break;
     }
     return l.count;
 }

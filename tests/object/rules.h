@@ -16,7 +16,8 @@ typedef enum {
     REFRESH,      /* of a, which is b times a factor */
     PAIR_REFRESH, /* of a, a fold's shifted copy */
     OPENING,      /* of a */
-    LIFT,         /* Open: target += a, and a is b times the unknown */
+    OPENED,       /* a, that the step before has opened: nothing is done with its shares any more */
+    LIFT,         /* target += a, and a is b times the unknown */
 } rule_kind;
 
 typedef struct {
@@ -28,10 +29,10 @@ typedef struct {
     uint8_t z[6]; /* the draws: one to each pair of shares, in Refresh to the pairs of the first share */
 } rule;
 
-/* Those of the step that a record stands at, before it is done. Returns how many; at
- * most MAX_RULES. */
+/* Those of the step that a record stands at, before it is done; the solution is what it
+ * is lent. Returns how many; at most MAX_RULES. */
 #define MAX_RULES 400
-size_t rules_of(const sizes *s, const uint64_t *record, const uint8_t *table, const uint8_t *mask,
-                const uint8_t *nonzero, rule *out);
+size_t rules_of(const sizes *s, const uint64_t *record, const uint8_t *table, const uint8_t *solution,
+                const uint8_t *mask, const uint8_t *nonzero, rule *out);
 
 #endif

@@ -21,7 +21,8 @@ INLINE uint64_t step(work *t, unsigned w, unsigned n, const uint64_t *record, ui
     case HZ_CHECK: return check_stops(t, w, n, j) ? HZ_STOPPED : HZ_MOVED;
     case HZ_SCALE: scale(t, w, n, j); return HZ_MOVED;
     case HZ_CLEAR: clear(t, w, n, j, k); return HZ_MOVED;
-    default: solution[j] = open_unknown(t, w, n, j); return j == 0 ? HZ_DONE : HZ_OPENED;
+    case HZ_OPEN: solution[j] = open_unknown(t, w, n, j); return j == 0 ? HZ_DONE : HZ_OPENED;
+    default: lift(t, w, n, j, solution[j]); return HZ_MOVED;
     }
 }
 

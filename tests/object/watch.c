@@ -88,10 +88,10 @@ static bool in_share(name x, uint8_t i, uint8_t j)
 }
 
 /* Where a Refresh is opened its draws may be added together with those of the Opening,
- * which wants each share with all of them. */
+ * which wants each share with all of them. With what was opened before nothing is done. */
 static void want_all(watch *w)
 {
-    if (w->in[0].kind == REFRESH && w->in[0].opened == 'a')
+    if (w->in[0].kind == OPENED || (w->in[0].kind == REFRESH && w->in[0].opened == 'a'))
         return;
     for (uint8_t i = 0; i < w->n; i++)
         if (w->in[0].kind == PRODUCT || w->in[0].kind == AND)
@@ -113,7 +113,7 @@ void watch_open(const sizes *s, watch *w)
     w->independent = true;
     for (uint8_t i = 0; i < w->n; i++)
         must_add(w, (name){'a', i, 0, 0}, 0);
-    if (kind != LIFT)
+    if (kind != LIFT && kind != OPENED)
         add_draws(w);
     if (kind == PRODUCT || kind == AND)
         add_products(w);
@@ -216,7 +216,7 @@ static const char *fault_of(const watch *w, const sum *s)
 
 static const char *told(const watch *w, const char *what, const name_set *names)
 {
-    static const char *const kinds[] = {"Product", "And", "Refresh", "pair refresh", "Opening", "row"};
+    static const char *const kinds[] = {"Product", "And", "Refresh", "pair refresh", "Opening", "opened entry", "row"};
     static char text[1024];
     size_t len = (size_t)snprintf(text, sizeof text, "%s", what);
     const char *between = ": ";

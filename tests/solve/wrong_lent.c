@@ -10,6 +10,7 @@
  *     step, ended         the record is at step 9, or done
  *     pivot               the first step is Scale(1) instead
  *     masks, nonzeros     the record counts a mask draw too many, or a nonzero draw
+ *     unknown, other      the unknown that a Lift reads in the solution is 16, or another than Open wrote
  *
  * Linked with --wrap for the four calls. */
 #include "hostozaro.h"
@@ -79,6 +80,10 @@ uint64_t __wrap_hz_step(uint64_t *record, size_t record_len, uint8_t *table, siz
         record[HZ_MASK_TAKEN] = answer[1]; /* a full solve's, or 19 would come before 11 */
         record[HZ_NONZERO_TAKEN] = answer[2];
     }
+    if (wrong("unknown") && record[HZ_STEP] == HZ_LIFT)
+        solution[record[HZ_J] - 1] = 16;
+    if (wrong("other") && record[HZ_STEP] == HZ_LIFT)
+        solution[record[HZ_J] - 1] ^= 1;
     record[HZ_MASK_TAKEN] += wrong("masks");
     record[HZ_NONZERO_TAKEN] += wrong("nonzeros");
     if (wrong("draw") && nonzero_len > 0)

@@ -66,8 +66,8 @@ static void say(uint64_t code)
 
 static void steps(void)
 {
-    static const char *const names[] = {
-        [HZ_MIX] = "Mix", [HZ_CHECK] = "Check", [HZ_SCALE] = "Scale", [HZ_CLEAR] = "Clear", [HZ_OPEN] = "Open"};
+    static const char *const names[] = {[HZ_MIX] = "Mix",     [HZ_CHECK] = "Check", [HZ_SCALE] = "Scale",
+                                        [HZ_CLEAR] = "Clear", [HZ_OPEN] = "Open",   [HZ_LIFT] = "Lift"};
     uint64_t record[HZ_RECORD_WORDS];
     size_t at = 0, nonzero_at = 0;
     model_start(field, n, m, record, HZ_RECORD_WORDS, answer, HZ_ANSWER_WORDS);

@@ -242,6 +242,22 @@ static void step_row(uint64_t seed, uint64_t field, uint64_t n, uint64_t m, uint
     left(&t, 1, &opened);
 }
 
+/* Lift(j) of this byte, in a solution whose other bytes nothing has written. It has no draws. */
+static void lift_row(uint64_t seed, uint64_t field, uint64_t n, uint64_t m, uint64_t j, uint8_t x)
+{
+    uint64_t record[HZ_RECORD_WORDS] = {field, n, m, HZ_LIFT, j, 0}, answer[HZ_ANSWER_WORDS], none = 0;
+    model_taken(field, n, m, HZ_LIFT, j, 0, &record[HZ_MASK_TAKEN], &record[HZ_NONZERO_TAKEN]);
+    task t = made_up(seed, field, n, m);
+    solution[j - 1] = x;
+    row(&t, "lift", "Lift where x_%u is %u", (unsigned)j, x);
+    order(&t);
+    printf(" %u", (unsigned)j);
+    whole(&t, table);
+    bytes(solution, m, 1);
+    model_step(record, HZ_RECORD_WORDS, table, entries(&t) * n, solution, m, mask, 0, nonzero, 0, answer, HZ_ANSWER_WORDS);
+    left(&t, 1, &none);
+}
+
 static void solve_row(uint64_t seed, uint64_t field, uint64_t n, uint64_t m, const uint8_t *values)
 {
     uint64_t answer[1 + HZ_ANSWER_WORDS] = {0};
@@ -303,6 +319,11 @@ int main(void)
     step_row(15, 256, 3, 3, HZ_OPEN, 3, 0, 4, 201);
     step_row(16, 16, 4, 3, HZ_OPEN, 2, 0, 4, 14);
     step_row(17, 16, 3, 2, HZ_OPEN, 1, 0, 3, 9);
+    lift_row(18, 16, 2, 2, 2, 6);
+    lift_row(19, 256, 3, 3, 3, 201);
+    lift_row(20, 16, 4, 3, 2, 14);
+    lift_row(21, 256, 2, 3, 3, 1);
+    lift_row(22, 16, 3, 2, 2, 0);
 
     solve_row(1, 16, 2, 3, (uint8_t[]){0, 0, 3, 7, 2, 0, 1, 5, 1, 4, 9, 6});
     solve_row(2, 16, 2, 2, (uint8_t[]){1, 2, 1, 2, 4, 2});

@@ -1,4 +1,4 @@
--- The unknowns that back substitution finds, and what each Open does to them.
+-- The unknowns that back substitution finds, and what each Open and its Lift do to them.
 -- Assumes nothing.
 use mathlib.Core.Path.{_≡_, refl, sym, ap, _∙_}
 use mathlib.Core.Logic.{_≢_}
@@ -10,7 +10,7 @@ use lib.Dec.{eqb}
 use borrow.Author.Tests.{eq-eqb, ne-eqb}
 use Rattle.field.specs.Field.{Ops, Field, sub, pick}
 use Rattle.algebra.specs.Linear.{Table}
-use Rattle.algebra.specs.Steps.{Opens}
+use Rattle.algebra.specs.Steps.{Lifts}
 
 module _ (F : Ops) (p : ℕ → ℕ) where
   -- the right side that is left when the unknown of row n is known
@@ -72,19 +72,19 @@ module _ (F : Ops) (p : ℕ → ℕ) where
     pub before : (i : ℕ) → 1 ≤ i → i ≤ m → (1 ≤ p i) × (p i < w)
     pub apart : (i k : ℕ) → 1 ≤ i → i < k → k ≤ m → p i ≢ p k
 
-  pub opening-next : (m w : ℕ) → Pivots m w → (X : ℕ → ℕ) (n : ℕ) → suc n ≤ m → {T U : Table} {x y : ℕ → ℕ}
-      → Opens m w F (suc n) (p (suc n)) T U → y (p (suc n)) ≡ T (suc n) w → ((i : ℕ) → suc n < i → i ≤ m → y (p i) ≡ x (p i))
+  pub opening-next : (m w : ℕ) → Pivots m w → (X : ℕ → ℕ) (n : ℕ) → suc n ≤ m → {T U : Table} {x y : ℕ → ℕ} {v : ℕ}
+      → Lifts m w F (suc n) (p (suc n)) v T U → v ≡ T (suc n) w → y (p (suc n)) ≡ T (suc n) w → ((i : ℕ) → suc n < i → i ≤ m → y (p i) ≡ x (p i))
       → Opening m w X (suc n) T x → Opening m w X n U y
-  opening-next m w P X n l {T} {U} {x} {y} O here there h =
+  opening-next m w P X n l {T} {U} {x} {y} O e here there h =
       record {
         known = λ i a b. elim (ℕ-discrete i (suc n)) [
-          | yes e ↦ rw e (here ∙ sym (opened-at T n _ (p (suc n)) refl) ∙ h .left (suc n) (omega arith) (omega arith))
-          | no e ↦ there i (omega arith) b ∙ h .known i (omega arith) b
+          | yes s ↦ rw s (here ∙ sym (opened-at T n _ (p (suc n)) refl) ∙ h .left (suc n) (omega arith) (omega arith))
+          | no s ↦ there i (omega arith) b ∙ h .known i (omega arith) b
         ];
         left = λ i a b.
             opened-ext n T U _ _ (p i)
             (λ r k x y s t. let c = P .before k s (omega arith) in O .kept r (p k) (omega arith) (λ e. absurd (let z : ⊥ = omega arith in z)))
-            (λ r x y. O .new r x (omega arith))
+            (λ r x y. O .new r x (omega arith) ∙ ap (λ (u : ℕ). sub F (T r w) (F .mul u (T r (p (suc n))))) e)
             ∙ sym (opened-other T n _ (p i) (P .apart i (suc n) a (omega arith) l))
             ∙ h .left i a (omega arith);
       }

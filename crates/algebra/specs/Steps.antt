@@ -37,8 +37,8 @@ module _ (m w : ℕ) where
     abbrev pub Clears : ℕ → ℕ → ℕ → Table → Table → Type 0
     Clears k j s T U = RowIs s j (λ c. sub F (T s c) (F .mul (T s j) (T k c))) T U
 
-    -- Open: the unknown of row k is its entry in the last column, and each row above loses it times its own entry in the unknown's column j
-    -- ("the factor is T[j,k] where T[k,j] is meant" in 001)
-    pub record Opens (k j : ℕ) (T U : Table) : Type 0 where
-      pub new : (r : ℕ) → 1 ≤ r → r < k → U r w ≡ sub F (T r w) (F .mul (T k w) (T r j))
+    -- Lift: each row above row k loses x, the unknown of column j, times its own entry in that column ("the factor is T[j,k] where T[k,j] is
+    -- meant" in 001)
+    pub record Lifts (k j x : ℕ) (T U : Table) : Type 0 where
+      pub new : (r : ℕ) → 1 ≤ r → r < k → U r w ≡ sub F (T r w) (F .mul x (T r j))
       pub kept : (r c : ℕ) → In r c → (c ≡ w → k ≤ r) → U r c ≡ T r c

@@ -10,7 +10,7 @@ use lib.Dec.{ltb, eqb}
 use lib.ListN.{length, length-append}
 use Rattle.field.specs.Field.{pick}
 use Rattle.course.specs.declared.Step.{Step}
-use Rattle.course.specs.declared.Step.the-variants.{Mix, Check, Scale, Clear, Open}
+use Rattle.course.specs.declared.Step.the-variants.{Mix, Check, Scale, Clear, Open, Lift}
 use Rattle.course.specs.declared.Place.{Place}
 use Rattle.course.specs.declared.Place.the-variants.{At, Stopped, Done}
 use Rattle.course.specs.declared.Order.{Order}
@@ -56,6 +56,7 @@ module _ (m : ℕ) where
   after-calm (Scale j) = either Calm (ltb j m) tt tt
   after-calm (Clear j k) = either Calm (ltb k m) tt (first-calm m (j + 1))
   after-calm (Open j) = either Calm (ltb 1 j) tt tt
+  after-calm (Lift j) = tt
 
   -- whatever a step opened, the same steps are left
   pub resume-after : (s : Step) (x : ℕ) → resume (following m s x) ≡ following m s 0
@@ -65,6 +66,7 @@ module _ (m : ℕ) where
   resume-after (Scale j) x = calm-resume _ (after-calm (Scale j))
   resume-after (Clear j k) x = calm-resume _ (after-calm (Clear j k))
   resume-after (Open j) x = calm-resume _ (after-calm (Open j))
+  resume-after (Lift j) x = refl
 
   -- the first step left is the one at the place
   pub first : (s : Step) (rest : List Step) → Chain m (At s) rest Done → (more : List Step) × (rest ≡ s ∷ more) × Chain m (following m s 0) more Done

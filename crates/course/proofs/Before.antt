@@ -4,14 +4,14 @@
 use mathlib.Core.Bool.{Bool, true, false}
 use mathlib.Core.List.{List, [], _∷_, _++_, append-assoc, append-nil}
 use mathlib.Core.Path.{_≡_, refl, sym, ap, _∙_}
-use Prim.Native.Nat.{ℕ, zero, suc, _<_, _≤_, _+_, _-_}
+use Prim.Native.Nat.{ℕ, zero, suc, _<_, _≤_, _+_, _-_, _*_}
 use native.Mathlib.Omega.{arith}
 use lib.Dec.{ltb, eqb}
 use lib.ListN.{take}
 use borrow.Author.Tests.{ltb-true, ltb-false}
 use Rattle.field.specs.Field.{pick}
 use Rattle.course.specs.declared.Step.{Step}
-use Rattle.course.specs.declared.Step.the-variants.{Mix, Check, Scale, Clear, Open}
+use Rattle.course.specs.declared.Step.the-variants.{Mix, Check, Scale, Clear, Open, Lift}
 use Rattle.course.specs.declared.Place.{Place}
 use Rattle.course.specs.declared.Place.the-variants.{At, Stopped, Done}
 use Rattle.course.specs.declared.Order.{Order}
@@ -32,19 +32,51 @@ each-snoc f zero a b k e g =
 each-snoc f (suc n) a b k e g =
     rw (e, each-snoc f n (a + 1) (suc n) k refl (omega arith))
 
-openings-snoc : (d n j : ℕ) → j + d ≡ n → 1 ≤ j → take (suc d) (openings n) ≡ take d (openings n) ++ (Open j ∷ [])
-unfolding openings
-openings-snoc d zero j e l = absurd (let n : ⊥ = omega arith in n)
-openings-snoc zero (suc n) j e l = let x : j ≡ suc n = omega arith in rw x
-openings-snoc (suc d) (suc n) j e l = ap (λ (l : List Step). Open (suc n) ∷ l) (openings-snoc d n j (omega arith) l)
+-- after an Open and a Lift for each of d unknowns comes Open(j), and then Lift(j) where j is not 1
+module _ (j : ℕ) where
+  pub open-next : (d n a b : ℕ) → j + d ≡ n → 1 ≤ j → a ≡ 2 * d → b ≡ a + 1 → take b (openings n) ≡ take a (openings n) ++ (Open j ∷ [])
+  unfolding openings
+  open-next d zero a b e l p q = absurd (let n : ⊥ = omega arith in n)
+  open-next zero (suc zero) a b e l p q =
+      let x : j ≡ 1 = omega arith in
+      let y : b ≡ 1 = omega arith in
+      rw (p, x, y)
+  open-next zero (suc (suc n)) a b e l p q =
+      let x : j ≡ suc (suc n) = omega arith in
+      let y : b ≡ 1 = omega arith in
+      rw (p, x, y)
+  open-next (suc d) (suc zero) a b e l p q = absurd (let n : ⊥ = omega arith in n)
+  open-next (suc d) (suc (suc n)) a b e l p q =
+      let x : a ≡ suc (suc (2 * d)) = omega arith in
+      let y : b ≡ suc (suc (2 * d + 1)) = omega arith in
+      rw (x, y)
+      (ap (λ (k : List Step). Open (suc (suc n)) ∷ Lift (suc (suc n)) ∷ k) (open-next d (suc n) (2 * d) (2 * d + 1) (omega arith) l refl refl))
 
-pub openings-all : (n : ℕ) → take n (openings n) ≡ openings n
+  lift-next : (d n a b : ℕ) → j + d ≡ n → 2 ≤ j → a ≡ 2 * d + 1 → b ≡ a + 1 → take b (openings n) ≡ take a (openings n) ++ (Lift j ∷ [])
+  unfolding openings
+  lift-next d zero a b e l p q = absurd (let n : ⊥ = omega arith in n)
+  lift-next d (suc zero) a b e l p q = absurd (let n : ⊥ = omega arith in n)
+  lift-next zero (suc (suc n)) a b e l p q =
+      let x : j ≡ suc (suc n) = omega arith in
+      let y : b ≡ 2 = omega arith in
+      rw (p, x, y)
+  lift-next (suc d) (suc (suc n)) a b e l p q =
+      let x : a ≡ suc (suc (2 * d + 1)) = omega arith in
+      let y : b ≡ suc (suc (2 * d + 2)) = omega arith in
+      rw (x, y)
+      (ap (λ (k : List Step). Open (suc (suc n)) ∷ Lift (suc (suc n)) ∷ k) (lift-next d (suc n) (2 * d + 1) (2 * d + 2) (omega arith) l refl (omega arith)))
+
+-- with Open(1) that is all of them
+pub openings-all : (n a : ℕ) → a ≡ n + n - 1 → take a (openings n) ≡ openings n
 unfolding openings
-openings-all zero = refl
-openings-all (suc n) = ap (λ (l : List Step). Open (suc n) ∷ l) (openings-all n)
+openings-all zero a e = rw e
+openings-all (suc zero) a e = rw e
+openings-all (suc (suc n)) a e =
+    let x : a ≡ suc (suc (suc n + suc n - 1)) = omega arith in
+    rw x (ap (λ (k : List Step). Open (suc (suc n)) ∷ Lift (suc (suc n)) ∷ k) (openings-all (suc n) (suc n + suc n - 1) refl))
 
 -- by whether k is below m
-by-less : {A : Type 0} (P : A → Type 0) (k m : ℕ) {x y : A} → (k < m → P x) → (m ≤ k → P y) → P (pick (ltb k m) x y)
+pub by-less : {A : Type 0} (P : A → Type 0) (k m : ℕ) {x y : A} → (k < m → P x) → (m ≤ k → P y) → P (pick (ltb k m) x y)
 by-less P k m {x} {y} a b = by (ltb k m) refl
   where
     by : (t : Bool) → ltb k m ≡ t → P (pick t x y)
@@ -108,13 +140,13 @@ module _ (m : ℕ) where
       ∙ simp (append-assoc, each-snoc (Clear j) (k - j - 1) (j + 1) (m - j) k (omega arith) (omega arith)))
   added (Open j) x h =
       let w = within m (Open j) h in
+      let o = open-next j (m - j) m (2 * (m - j)) (2 * (m - j) + 1) (omega arith) (w .0) refl refl in
       by-less (λ (p : Place). stepsBefore m p ≡ stepsBefore m (At (Open j)) ++ (Open j ∷ [])) 1 j
-      (λ l.
-      let z : m - (j - 1) ≡ suc (m - j) = omega arith in
-      rw (z, openings-snoc (m - j) m j (omega arith) (w .0)) (simp append-assoc))
-      (λ l.
-      let z : m ≡ suc (m - j) = omega arith in
-      simp append-assoc (ap (λ (l : List Step). columns m 1 m ++ l) (sym (openings-all m) ∙ ap (λ (n : ℕ). take n (openings m)) z ∙ openings-snoc (m - j) m j (omega arith) (w .0))))
+      (λ l. rw o (simp append-assoc))
+      (λ l. simp append-assoc (ap (λ (k : List Step). columns m 1 m ++ k) (sym (openings-all m (2 * (m - j) + 1) (omega arith)) ∙ o)))
+  added (Lift j) x h =
+      let w = within m (Lift j) h in
+      rw (lift-next j (m - j) m (2 * (m - j) + 1) (2 * (m - (j - 1))) (omega arith) (w .0) refl (omega arith)) (simp append-assoc)
 
 module _ (o : Order) where
   -- nothing is taken before the first place

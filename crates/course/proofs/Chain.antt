@@ -9,7 +9,7 @@ use lib.Dec.{ltb}
 use borrow.Author.Tests.{lt-ltb, le-ltb}
 use Rattle.field.specs.Field.{pick}
 use Rattle.course.specs.declared.Step.{Step}
-use Rattle.course.specs.declared.Step.the-variants.{Mix, Check, Scale, Clear, Open}
+use Rattle.course.specs.declared.Step.the-variants.{Mix, Check, Scale, Clear, Open, Lift}
 use Rattle.course.specs.declared.Place.{Place}
 use Rattle.course.specs.declared.Place.the-variants.{At, Done}
 use Rattle.course.specs.StepList.{each, column, columns, openings, stepList, upTo}
@@ -66,18 +66,14 @@ module _ (m : ℕ) where
   unfolding column following
   column-chain j l = join _ _ _ (each (Mix j) (j + 1) (m - j)) _ (mixes j l) (refl, (refl, clears j l))
 
-  opened : (n : ℕ) → Chain m (following m (Open (suc n)) 0) (openings n) Done
-  unfolding openings following
-  opened zero = refl
-  opened (suc n) =
-      let l : 1 < suc (suc n) = omega arith in
-      let e : suc (suc n) - 1 ≡ suc n = omega arith in
-      rw (lt-ltb 1 (suc (suc n)) l, e) (refl, opened n)
-
   openings-chain : (k : ℕ) → 1 ≤ k → Chain m (At (Open k)) (openings k) Done
-  unfolding openings
+  unfolding openings following
   openings-chain zero l = absurd (let n : ⊥ = omega arith in n)
-  openings-chain (suc n) l = (refl, opened n)
+  openings-chain (suc zero) l = (refl, refl)
+  openings-chain (suc (suc n)) l =
+      let h : 1 < suc (suc n) = omega arith in
+      let e : suc (suc n) - 1 ≡ suc n = omega arith in
+      rw (lt-ltb 1 (suc (suc n)) h, e) (refl, (refl, openings-chain (suc n) (omega arith)))
 
   onward : 1 ≤ m → (n j : ℕ) → j + n ≡ m → Chain m (nextColumn j) (columns m (j + 1) n ++ openings m) Done
   unfolding columns nextColumn

@@ -14,7 +14,7 @@ use Rattle.sharing.proofs.Pairs.{pairs-double}
 use Rattle.flag.specs.Flag.{flagDraws}
 use Rattle.table.specs.Costs.{mixCost, checkCost, scaleCost, scaleNonzero, clearCost, openCost}
 use Rattle.course.specs.declared.Step.{Step}
-use Rattle.course.specs.declared.Step.the-variants.{Mix, Check, Scale, Clear, Open}
+use Rattle.course.specs.declared.Step.the-variants.{Mix, Check, Scale, Clear, Open, Lift}
 use Rattle.course.specs.declared.Place.{Place}
 use Rattle.course.specs.declared.Place.the-variants.{At, Stopped, Done}
 use Rattle.course.specs.declared.Order.{Order}
@@ -23,7 +23,7 @@ use Rattle.course.specs.Taken.{beforeStep, stepsBefore, takenAt}
 use Rattle.course.specs.Code.Closed.{flagsOver, rowsOver, partAt, partOf, Stands, Kept, weighed, maskOf, nonzeroOf}
 use Rattle.course.proofs.Within.{within, in-list}
 use Rattle.course.proofs.Sums.{sum-append, each-none, columns-nonzero, nonzero-count}
-use Rattle.course.proofs.Before.{openings-all, column-last}
+use Rattle.course.proofs.Before.{open-next, openings-all, column-last}
 
 -- ---- sums over the widths L = y+1..y+d: of L-1, and of (L-1)L
 
@@ -81,11 +81,22 @@ unfolding each sumOver
 each-sum g f x h zero a = omega arith
 each-sum g f x h (suc n) a = omega (arith, h a, each-sum g f x h n (a + 1))
 
-opens-sum : (g : Step → ℕ) (x : ℕ) → ((k : ℕ) → g (Open k) ≡ x) → (d n : ℕ) → d ≤ n → sumOver g (take d (openings n)) ≡ d * x
-unfolding openings sumOver
-opens-sum g x h zero n l = omega arith
-opens-sum g x h (suc d) zero l = absurd (let n : ⊥ = omega arith in n)
-opens-sum g x h (suc d) (suc n) l = omega (arith, h (suc n), opens-sum g x h d n (omega arith))
+-- the Opens that come before Open(j), and before Lift(j); a Lift adds nothing
+module _ (g : Step → ℕ) (x : ℕ) (h : (k : ℕ) → g (Open k) ≡ x) (none : (k : ℕ) → g (Lift k) ≡ 0) where
+  before-open : (d n a : ℕ) → d < n → a ≡ 2 * d → sumOver g (take a (openings n)) ≡ d * x
+  unfolding openings sumOver
+  before-open zero n a l e = rw e (omega arith)
+  before-open (suc d) zero a l e = absurd (let n : ⊥ = omega arith in n)
+  before-open (suc d) (suc zero) a l e = absurd (let n : ⊥ = omega arith in n)
+  before-open (suc d) (suc (suc n)) a l e =
+      let y : a ≡ suc (suc (2 * d)) = omega arith in
+      rw y (omega (arith, h (suc (suc n)), none (suc (suc n)), before-open d (suc n) (2 * d) (omega arith) refl))
+
+  before-lift : (d n a : ℕ) → d < n → a ≡ 2 * d + 1 → sumOver g (take a (openings n)) ≡ (d + 1) * x
+  unfolding sumOver
+  before-lift d n a l e =
+      rw (open-next (n - d) d n (2 * d) a (omega arith) (omega arith) refl e, sum-append g (take (2 * d) (openings n)) (Open (n - d) ∷ []))
+      (omega (arith, h (n - d), before-open d n (2 * d) l refl))
 
 module _ (o : Order) where
   abbrev F : ℕ
@@ -221,12 +232,18 @@ module _ (o : Order) where
       plain : (A f rest : ℕ) → A + F * f + N * rest ≡ A + F * (f + 0) + N * (rest + 0)
       plain A f rest = omega arith
 
-  opens : Sizes o → (d more : ℕ) → d ≤ o .size → d ≡ more
-      → mask (columns (o .size) 1 (o .size) ++ take d (openings (o .size))) ≡ maskOf (o .field) (o .shares) w (record { width = 1; flags = 0; more = more; less = 0 })
+  -- all columns, and so many Opens
+  opens : Sizes o → (l : List Step) (d more : ℕ) → mask l ≡ d * N → d ≡ more
+      → mask (columns (o .size) 1 (o .size) ++ l) ≡ maskOf (o .field) (o .shares) w (record { width = 1; flags = 0; more = more; less = 0 })
+  opens z l d more h e = beyond z 1 (o .size) 0 more l (omega arith) (omega arith) (h ∙ omega (arith, ap (λ k. k * N) e))
+
+  first-opens : (d a : ℕ) → d < o .size → a ≡ 2 * d → mask (take a (openings (o .size))) ≡ d * N
   unfolding costOf openCost
-  opens z d more l e =
-      beyond z 1 (o .size) 0 more (take d (openings (o .size))) (omega arith) (omega arith)
-      (opens-sum (maskCost o) N (λ k. refl) d (o .size) l ∙ omega (arith, ap (λ k. k * N) e))
+  first-opens d a l e = before-open (maskCost o) N (λ k. refl) (λ k. refl) d (o .size) a l e
+
+  one-more : (d a : ℕ) → d < o .size → a ≡ 2 * d + 1 → mask (take a (openings (o .size))) ≡ (d + 1) * N
+  unfolding costOf openCost
+  one-more d a l e = before-lift (maskCost o) N (λ k. refl) (λ k. refl) d (o .size) a l e
 
   spread : (n L : ℕ) → n * (F + L * N) ≡ F * n + N * (n * L)
   spread n L = omega arith
@@ -245,7 +262,14 @@ module _ (o : Order) where
       (mixes-sum j (w + 1 - j) (w - 1 - j) (omega arith) ∙ spread (w - 1 - j) (w + 1 - j)))
   step-mask z (Scale j) h = let u = within (o .size) (Scale j) h in up-to z j (u .0) (u .1)
   step-mask z (Clear j k) h = let u = within (o .size) (Clear j k) h in clear-sum z j k (u .0) (u .1) (u .2)
-  step-mask z (Open j) h = let u = within (o .size) (Open j) h in opens z (o .size - j) (w - 1 - j) (omega arith) (omega arith)
+  step-mask z (Open j) h =
+      let u = within (o .size) (Open j) h in
+      let d = o .size - j in
+      opens z _ d (w - 1 - j) (first-opens d (2 * d) (omega arith) refl) (omega arith)
+  step-mask z (Lift j) h =
+      let u = within (o .size) (Lift j) h in
+      let d = o .size - j in
+      opens z _ (d + 1) (w - j) (one-more d (2 * d + 1) (omega arith) refl) (omega arith)
 
   -- the mask draws taken at a place
   pub mask-closed : Sizes o → (p : Place) → Stands (o .size) p → takenAt o p .mask ≡ maskOf (o .field) (o .shares) w (partOf w p)
@@ -253,8 +277,9 @@ module _ (o : Order) where
   mask-closed z (At s) h = step-mask z s h
   mask-closed z (Stopped j) h = up-to z j (h .0) (h .1)
   mask-closed z Done h =
-      let x : w - 1 ≡ o .size = omega arith in
-      rw x (ap (λ (l : List Step). mask (columns (o .size) 1 (o .size) ++ l)) (sym (openings-all (o .size))) ∙ opens z (o .size) (o .size) (omega arith) refl)
+      let a = 2 * (o .size - 1) + 1 in
+      let all : take a (openings (o .size)) ≡ openings (o .size) = openings-all (o .size) a (omega (arith, z .some)) in
+      opens z (openings (o .size)) (o .size - 1 + 1) (w - 1) (ap mask (sym all) ∙ one-more (o .size - 1) a (omega (arith, z .some)) refl) (omega (arith, z .some))
 
   -- ---- the nonzero draws
 
@@ -292,7 +317,13 @@ module _ (o : Order) where
   step-nonzero (Open j) h =
       let u = within (o .size) (Open j) h in
       let x : w - 1 ≡ o .size = omega arith in
-      rw x (omega (arith, columns-nonzeros (o .size) (take (o .size - j) (openings (o .size))), opens-sum (nonzeroCost o) 0 (λ k. refl) (o .size - j) (o .size) (omega arith)))
+      let a = 2 * (o .size - j) in
+      rw x (omega (arith, columns-nonzeros (o .size) (take a (openings (o .size))), before-open (nonzeroCost o) 0 (λ k. refl) (λ k. refl) (o .size - j) (o .size) a (omega arith) refl))
+  step-nonzero (Lift j) h =
+      let u = within (o .size) (Lift j) h in
+      let x : w - 1 ≡ o .size = omega arith in
+      let a = 2 * (o .size - j) + 1 in
+      rw x (omega (arith, columns-nonzeros (o .size) (take a (openings (o .size))), before-lift (nonzeroCost o) 0 (λ k. refl) (λ k. refl) (o .size - j) (o .size) a (omega arith) refl))
 
   pub nonzero-closed : (p : Place) → Stands (o .size) p → takenAt o p .nonzero ≡ nonzeroOf (o .shares) w (partOf w p)
   unfolding takenAt stepsBefore partOf partAt nonzeroOf
@@ -321,6 +352,9 @@ module _ (o : Order) where
       record { low = omega arith; high = omega arith; flags = omega arith; more = omega arith; less = rw (rows-are (w - j) j w (omega arith) (omega arith)) (less-sum j k (u .0) (u .1) (u .2)) }
   step-kept z (Open j) h =
       let u = within (o .size) (Open j) h in
+      record { low = omega arith; high = omega arith; flags = omega arith; more = omega (arith, z .most); less = omega arith }
+  step-kept z (Lift j) h =
+      let u = within (o .size) (Lift j) h in
       record { low = omega arith; high = omega arith; flags = omega arith; more = omega (arith, z .most); less = omega arith }
 
   pub kept : Sizes o → (p : Place) → Stands (o .size) p → Kept w (partOf w p)

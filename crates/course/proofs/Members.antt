@@ -7,7 +7,7 @@ use Prim.Native.Nat.{ℕ, zero, suc, _<_, _≤_, _+_, _-_}
 use native.Mathlib.Decide.{ℕ-discrete}
 use native.Mathlib.Omega.{arith}
 use Rattle.course.specs.declared.Step.{Step}
-use Rattle.course.specs.declared.Step.the-variants.{Mix, Check, Scale, Clear, Open}
+use Rattle.course.specs.declared.Step.the-variants.{Mix, Check, Scale, Clear, Open, Lift}
 use Rattle.course.specs.StepList.{each, column, columns, openings, stepList, inList}
 use Rattle.course.proofs.Within.{Within, within, in-list}
 
@@ -42,7 +42,9 @@ module _ (m : ℕ) where
   all-openings : (n : ℕ) → n ≤ m → AllIn m (openings n)
   unfolding openings
   all-openings zero e = tt
-  all-openings (suc n) e = (in-list m (Open (suc n)) (omega arith, e), all-openings n (omega arith))
+  all-openings (suc zero) e = (in-list m (Open 1) (omega arith, e), tt)
+  all-openings (suc (suc n)) e =
+      (in-list m (Open (suc (suc n))) (omega arith, e), (in-list m (Lift (suc (suc n))) (omega arith, e), all-openings (suc n) (omega arith)))
 
   pub all-in : AllIn m (stepList m)
   unfolding stepList
@@ -66,9 +68,19 @@ module _ (m : ℕ) where
   openings-have : (k n : ℕ) → 1 ≤ k → k ≤ n → List·Memᴰ (Open k) (openings n)
   unfolding openings
   openings-have k zero h g = absurd (let n : ⊥ = omega arith in n)
-  openings-have k (suc n) h g = elim (ℕ-discrete k (suc n)) [
+  openings-have k (suc zero) h g = let e : k ≡ 1 = omega arith in List·Memᴰ·head (ap Open e)
+  openings-have k (suc (suc n)) h g = elim (ℕ-discrete k (suc (suc n))) [
     | yes e ↦ List·Memᴰ·head (ap Open e)
-    | no d ↦ List·Memᴰ·tail (openings-have k n h (omega (arith, d)))
+    | no d ↦ List·Memᴰ·tail (List·Memᴰ·tail (openings-have k (suc n) h (omega (arith, d))))
+  ]
+
+  lifts-have : (k n : ℕ) → 2 ≤ k → k ≤ n → List·Memᴰ (Lift k) (openings n)
+  unfolding openings
+  lifts-have k zero h g = absurd (let n : ⊥ = omega arith in n)
+  lifts-have k (suc zero) h g = absurd (let n : ⊥ = omega arith in n)
+  lifts-have k (suc (suc n)) h g = elim (ℕ-discrete k (suc (suc n))) [
+    | yes e ↦ List·Memᴰ·tail (List·Memᴰ·head (ap Lift e))
+    | no d ↦ List·Memᴰ·tail (List·Memᴰ·tail (lifts-have k (suc n) h (omega (arith, d))))
   ]
 
   columns-have : (s : Step) (i n j : ℕ) → j ≤ i → i < j + n → List·Memᴰ s (column m i) → List·Memᴰ s (columns m j n)
@@ -96,6 +108,7 @@ module _ (m : ℕ) where
       list-has (Clear j k) j (w .0) (omega arith)
       (Memᴰ·append-right (each (Mix j) (j + 1) (m - j)) (List·Memᴰ·tail (List·Memᴰ·tail (each-has (Clear j) k (m - j) (j + 1) (omega arith) (omega arith)))))
   has (Open j) w = Memᴰ·append-right (columns m 1 m) (openings-have j m (w .0) (w .1))
+  has (Lift j) w = Memᴰ·append-right (columns m 1 m) (lifts-have j m (w .0) (w .1))
 
   pub listed : (s : Step) → inList m s ≡ true → List·Memᴰ s (stepList m)
   listed s h = has s (within m s h)

@@ -11,7 +11,7 @@ use Rattle.sharing.specs.Bounds.{mostRows, mostSteps, mostDraws}
 use Rattle.table.proofs.CostBounds.{mix-few, check-few, scale-few, clear-few, open-few}
 use Rattle.table.specs.Costs.{scaleNonzero}
 use Rattle.course.specs.declared.Step.{Step}
-use Rattle.course.specs.declared.Step.the-variants.{Mix, Check, Scale, Clear, Open}
+use Rattle.course.specs.declared.Step.the-variants.{Mix, Check, Scale, Clear, Open, Lift}
 use Rattle.course.specs.declared.Order.{Order}
 use Rattle.course.specs.StepList.{Sizes, each, column, columns, openings, stepList, inList, columnsAt, costOf, maskCost, nonzeroCost, sumOver, fullMask, fullNonzero}
 use Rattle.course.proofs.Within.{within}
@@ -42,20 +42,25 @@ columns-length m j (suc n) e =
     rw (length-append (column m j) (columns m (j + 1) n), column-length m j n (omega arith), columns-length m (j + 1) n (omega arith))
     (omega (arith, suc-mul n (suc n + 1), mul-suc n (n + 1)))
 
-openings-length : (n : ℕ) → length (openings n) ≡ n
+-- Open and Lift of each unknown, but for Lift(1)
+openings-length : (n : ℕ) → length (openings n) ≡ n + n - 1
 unfolding openings
 openings-length zero = refl
-openings-length (suc n) = ap suc (openings-length n)
+openings-length (suc zero) = refl
+openings-length (suc (suc n)) = omega (arith, openings-length (suc n))
 
--- m(m+2) steps
-pub list-length : (m : ℕ) → length (stepList m) ≡ m * (m + 2)
+-- m²+3m-1 steps
+pub list-length : (m : ℕ) → length (stepList m) ≡ m * (m + 3) - 1
 unfolding stepList
-list-length m =
-    rw (length-append (columns m 1 m) (openings m), columns-length m 1 m (omega arith), openings-length m)
-    (omega (arith, mul-add m m 1, mul-add m m 2))
+list-length zero =
+    rw (length-append (columns 0 1 0) (openings 0), columns-length 0 1 0 (omega arith), openings-length 0)
+list-length (suc n) =
+    rw (length-append (columns (suc n) 1 (suc n)) (openings (suc n)), columns-length (suc n) 1 (suc n) (omega arith), openings-length (suc n))
+    (omega arith)
 
 pub list-small : (m : ℕ) → m ≤ mostRows → length (stepList m) ≤ mostSteps
-list-small m h = rw (list-length m) (mul-le-mul {n₁ = m} {m₁ = m + 2} {n₂ = mostRows} {m₂ = mostRows + 2} h (omega arith))
+list-small m h =
+    rw (list-length m) (omega (arith, mul-le-mul {n₁ = m} {m₁ = m + 3} {n₂ = mostRows} {m₂ = mostRows + 3} h (omega arith)))
 
 -- the nonzero draws
 
@@ -68,7 +73,8 @@ module _ (o : Order) where
   openings-none : (n : ℕ) → sumOver (nonzeroCost o) (openings n) ≡ 0
   unfolding openings sumOver costOf
   openings-none zero = refl
-  openings-none (suc n) = omega (arith, openings-none n)
+  openings-none (suc zero) = refl
+  openings-none (suc (suc n)) = omega (arith, openings-none (suc n))
 
   column-nonzero : (m j : ℕ) → sumOver (nonzeroCost o) (column m j) ≡ o .shares - 1
   unfolding column sumOver costOf scaleNonzero
@@ -103,6 +109,7 @@ module _ (o : Order) where
       let w = within (o .size) (Clear j k) h in
       omega (arith, clear-few (o .shares) (columnsAt o j) (z .four) (omega arith))
   cost-small z (Open j) h = omega (arith, open-few (o .shares) (z .four))
+  cost-small z (Lift j) h = omega arith
 
   sum-small : Sizes o → (l : List Step) → AllIn (o .size) l → sumOver (maskCost o) l ≤ length l * mostDraws
   unfolding sumOver

@@ -8,7 +8,7 @@ use Prim.Native.Nat.{ℕ, _+_, _-_}
 use lib.Dec.{ltb, leb, eqb}
 use Rattle.field.specs.Field.{pick}
 use Rattle.course.specs.declared.Step.{Step}
-use Rattle.course.specs.declared.Step.the-variants.{Mix, Check, Scale, Clear, Open}
+use Rattle.course.specs.declared.Step.the-variants.{Mix, Check, Scale, Clear, Open, Lift}
 use Rattle.course.specs.declared.Place.{Place}
 use Rattle.course.specs.declared.Place.the-variants.{At, Stopped, Done}
 use Rattle.course.specs.declared.Order.{Order}
@@ -26,7 +26,8 @@ following m (Mix j k) x = pick (ltb k m) (At (Mix j (k + 1))) (At (Check j))
 following m (Check j) x = pick (eqb x 1) (Stopped j) (At (Scale j))
 following m (Scale j) x = pick (ltb j m) (At (Clear j (j + 1))) (At (Open m))
 following m (Clear j k) x = pick (ltb k m) (At (Clear j (k + 1))) (firstOf m (j + 1))
-following m (Open j) x = pick (ltb 1 j) (At (Open (j - 1))) Done
+following m (Open j) x = pick (ltb 1 j) (At (Lift j)) Done
+following m (Lift j) x = At (Open (j - 1))
 
 -- a record of an order at a place, with so many mask draws and nonzero draws taken
 abbrev pub recordAt : Order → Place → ℕ → ℕ → Progress

@@ -1,4 +1,4 @@
--- 01, "The step list": the list of a size, the draws of each step of it and what it opens, and sums over lists of steps.
+-- 01, "The step list", with R-7's Lift: the list of a size, the draws of each step of it and what it opens, and sums over lists of steps.
 -- Assumes nothing.
 use mathlib.Core.Bool.{Bool, _&&_, _||_}
 use mathlib.Core.List.{List, [], _∷_, _++_}
@@ -11,7 +11,7 @@ use Rattle.sharing.specs.Bounds.{mostRows}
 use Rattle.table.specs.Layout.{columnsFrom}
 use Rattle.table.specs.Costs.{mixCost, checkCost, scaleCost, scaleNonzero, clearCost, openCost}
 use Rattle.course.specs.declared.Step.{Step}
-use Rattle.course.specs.declared.Step.the-variants.{Mix, Check, Scale, Clear, Open}
+use Rattle.course.specs.declared.Step.the-variants.{Mix, Check, Scale, Clear, Open, Lift}
 use Rattle.course.specs.declared.Draws.{Draws}
 use Rattle.course.specs.declared.Order.{Order}
 use Rattle.course.specs.declared.Counts.{Counts}
@@ -43,12 +43,13 @@ unfoldable pub columns : ℕ → ℕ → ℕ → List Step
 columns m j zero = []
 columns m j (suc n) = column m j ++ columns m (j + 1) n
 
--- Open(j) for j = n down to 1
+-- Open(j) for j = n down to 1; 02, R-7: Lift "exists for j from m down to 2, directly after Open(j)"
 unfoldable pub openings : ℕ → List Step
 openings zero = []
-openings (suc n) = Open (suc n) ∷ openings n
+openings (suc zero) = Open 1 ∷ []
+openings (suc (suc n)) = Open (suc (suc n)) ∷ Lift (suc (suc n)) ∷ openings (suc n)
 
--- for j = 1..m the column's steps; then Open(j) for j = m down to 1
+-- for j = 1..m the column's steps; then Open(j) for j = m down to 1, with its Lift
 unfoldable pub stepList : ℕ → List Step
 stepList m = columns m 1 m ++ openings m
 
@@ -56,13 +57,14 @@ stepList m = columns m 1 m ++ openings m
 unfoldable pub upTo : ℕ → ℕ → List Step
 upTo m j = columns m 1 (j - 1) ++ (each (Mix j) (j + 1) (m - j) ++ (Check j ∷ []))
 
--- whether a step is one of the list: 1 ≤ j ≤ m, and j < k ≤ m where it has a k
+-- whether a step is one of the list: 1 ≤ j ≤ m, j < k ≤ m where it has a k, and there is no Lift(1)
 unfoldable pub inList : ℕ → Step → Bool
 inList m (Mix j k) = leb 1 j && (ltb j k && leb k m)
 inList m (Check j) = leb 1 j && leb j m
 inList m (Scale j) = leb 1 j && leb j m
 inList m (Clear j k) = leb 1 j && (ltb j k && leb k m)
 inList m (Open j) = leb 1 j && leb j m
+inList m (Lift j) = leb 2 j && leb j m
 
 -- L = m+2-j, in a row of m+1 columns
 abbrev pub columnsAt : Order → ℕ → ℕ
@@ -71,13 +73,14 @@ columnsAt o j = columnsFrom (o .size + 1) j
 abbrev pub draws : ℕ → ℕ → Draws
 draws mask nonzero = record { mask = mask; nonzero = nonzero }
 
--- a step's mask draws and its nonzero draws
+-- a step's mask draws and its nonzero draws; Lift has none
 unfoldable pub costOf : Order → Step → Draws
 costOf o (Mix j k) = draws (mixCost (o .field) (o .shares) (columnsAt o j)) 0
 costOf o (Check j) = draws (checkCost (o .field) (o .shares)) 0
 costOf o (Scale j) = draws (scaleCost (o .shares) (columnsAt o j)) (scaleNonzero (o .shares))
 costOf o (Clear j k) = draws (clearCost (o .shares) (columnsAt o j)) 0
 costOf o (Open j) = draws (openCost (o .shares)) 0
+costOf o (Lift j) = draws 0 0
 
 abbrev pub maskCost : Order → Step → ℕ
 maskCost o s = costOf o s .mask
@@ -85,7 +88,8 @@ maskCost o s = costOf o s .mask
 abbrev pub nonzeroCost : Order → Step → ℕ
 nonzeroCost o s = costOf o s .nonzero
 
--- what a step opens, with its j: Check the flag of T[j,j], Scale T[j,j] itself, blinded, and Open the unknown x_j
+-- what a step opens, with its j: Check the flag of T[j,j], Scale T[j,j] itself, blinded, and Open the unknown x_j. Lift opens nothing: its x_j is
+-- lent
 pub data Revealed : Type 0 where
   None : Revealed
   Flag : ℕ → Revealed
@@ -98,6 +102,7 @@ revealedBy (Check j) = Flag j
 revealedBy (Scale j) = Pivot j
 revealedBy (Clear j k) = None
 revealedBy (Open j) = Unknown j
+revealedBy (Lift j) = None
 
 unfoldable pub sumOver : (Step → ℕ) → List Step → ℕ
 sumOver cost [] = 0

@@ -9,13 +9,14 @@ ghost use Rattle.course.specs.StepList.{Sizes, sized, inList, costOf, st
 ghost use Rattle.course.specs.Next.{firstOf, following, orderOf, fits, nextOf, startOf};
 ghost use Rattle.course.specs.Code.Closed.{flagsOver, rowsOver, partAt, partOf, Stands, Kept, weighed, maskOf, agrees};
 
-// One of the five steps with its j and k. Check, Scale and Open carry j only.
+// One of the six steps with its j and k. Check, Scale, Open and Lift carry j only.
 pub enum Step {
     Mix { j: u64, k: u64 },
     Check(u64),
     Scale(u64),
     Clear { j: u64, k: u64 },
     Open(u64),
+    Lift(u64),
 }
 
 pub enum Place {
@@ -64,6 +65,7 @@ pub fn in_list(m: u64, s: Step) -> bool
         Step::Scale(j) => 1 <= j && j <= m,
         Step::Clear { j, k } => 1 <= j && j < k && k <= m,
         Step::Open(j) => 1 <= j && j <= m,
+        Step::Lift(j) => 2 <= j && j <= m,
     }
 }
 
@@ -114,11 +116,12 @@ fn place_after(m: u64, s: Step, x: u8) -> Place
         }
         Step::Open(j) => {
             if 1 < j {
-                Place::At(Step::Open(j - 1))
+                Place::At(Step::Lift(j))
             } else {
                 Place::Done
             }
         }
+        Step::Lift(j) => Place::At(Step::Open(j - 1)),
     }
 }
 
@@ -257,6 +260,10 @@ pub fn cost(o: Order, s: Step) -> Draws
             mask: table::open_cost(n),
             nonzero: 0,
         },
+        Step::Lift(_) => Draws {
+            mask: 0,
+            nonzero: 0,
+        },
     }
 }
 
@@ -337,6 +344,12 @@ fn part_at(m: usize, s: Step) -> Part
             more: m - j as usize,
             less: 0,
         },
+        Step::Lift(j) => Part {
+            width: 1,
+            flags: 0,
+            more: m + 1 - j as usize,
+            less: 0,
+        },
     }
 }
 
@@ -393,7 +406,7 @@ pub fn full_counts(o: Order) -> Counts
     let n = o.shares as usize;
     let m = o.size as usize;
     Counts {
-        steps: m * (m + 2),
+        steps: m * (m + 3) - 1,
         mask: mask_of(o.field, n, m + 1, part_of(m, Place::Done)),
         nonzero: m * (n - 1),
     }

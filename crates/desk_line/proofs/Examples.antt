@@ -24,10 +24,10 @@ row input line = record { input = input; line = line }
 
 pub rows : List Row
 rows =
-    -- n=2, m=1; blank shares; F256, n=4, m=96 (01 has 3,778,608 mask draws, which R-6 overrules)
+    -- n=2, m=1; blank shares; F256, n=4, m=96 (01 has 9,408 steps, which R-7 overrules, and 3,778,608 mask draws, which R-6 does)
     row (0x00 ∷ 0x10 ∷ 0x02 ∷ 0x01 ∷ []) "3 12 1\n"
     ∷ row (0x00 ∷ 0x10 ∷ 0x00 ∷ 0x01 ∷ []) "refused 2\n"
-    ∷ row (0x01 ∷ 0x00 ∷ 0x04 ∷ 0x60 ∷ []) "9408 3820512 288\n"
+    ∷ row (0x01 ∷ 0x00 ∷ 0x04 ∷ 0x60 ∷ []) "9503 3820512 288\n"
     -- no bytes, three and five
     ∷ row [] "refused 13\n"
     ∷ row (0x00 ∷ 0x10 ∷ 0x02 ∷ []) "refused 13\n"
@@ -42,8 +42,8 @@ rows =
     ∷ row (0x00 ∷ 0x10 ∷ 0x05 ∷ 0x01 ∷ []) "refused 2\n"
     ∷ row (0x00 ∷ 0x10 ∷ 0x02 ∷ 0x00 ∷ []) "refused 3\n"
     ∷ row (0x00 ∷ 0x10 ∷ 0x02 ∷ 0x61 ∷ []) "refused 3\n"
-    -- n=2, m=2; n=3, m=1 (01 has 35 mask draws, which R-6 overrules); F256, n=2, m=1
-    ∷ row (0x00 ∷ 0x10 ∷ 0x02 ∷ 0x02 ∷ []) "8 36 2\n"
+    -- n=2, m=2 (01 has 8 steps, which R-7 overrules); n=3, m=1 (01 has 35 mask draws, which R-6 overrules); F256, n=2, m=1
+    ∷ row (0x00 ∷ 0x10 ∷ 0x02 ∷ 0x02 ∷ []) "9 36 2\n"
     ∷ row (0x00 ∷ 0x10 ∷ 0x03 ∷ 0x01 ∷ []) "3 37 2\n"
     ∷ row (0x01 ∷ 0x00 ∷ 0x02 ∷ 0x01 ∷ []) "3 14 1\n"
     ∷ []

@@ -9,7 +9,7 @@ use lib.ListN.{length, set}
 use Rattle.course.specs.declared.Place.{Place}
 use Rattle.course.specs.declared.Place.the-variants.{At, Stopped, Done}
 use Rattle.course.specs.declared.Progress.{Progress}
-use Rattle.course.specs.declared.Step.the-variants.{Mix, Check, Scale, Clear, Open}
+use Rattle.course.specs.declared.Step.the-variants.{Mix, Check, Scale, Clear, Open, Lift}
 use Rattle.course.specs.StepList.{inList}
 use Rattle.verdict.specs.Told.{refused, line}
 use Rattle.solver.specs.Refusals.{placed, no10}
@@ -47,6 +47,7 @@ place-again (At (Check j)) = refl
 place-again (At (Scale j)) = refl
 place-again (At (Clear j k)) = refl
 place-again (At (Open j)) = refl
+place-again (At (Lift j)) = refl
 place-again (Stopped j) = refl
 place-again Done = refl
 

@@ -7,7 +7,7 @@ use lib.Dec.{eqb}
 use lib.ListN.{getD}
 use Rattle.field.specs.Field.{pick}
 use Rattle.course.specs.declared.Step.{Step}
-use Rattle.course.specs.declared.Step.the-variants.{Mix, Check, Scale, Clear, Open}
+use Rattle.course.specs.declared.Step.the-variants.{Mix, Check, Scale, Clear, Open, Lift}
 use Rattle.course.specs.declared.Place.{Place}
 use Rattle.course.specs.declared.Place.the-variants.{At, Stopped, Done}
 use Rattle.course.specs.declared.Progress.{Progress}
@@ -31,6 +31,7 @@ places j k =
     ∷ without k (At (Open j))
     ∷ without k (Stopped j)
     ∷ without j (without k Done)
+    ∷ without k (At (Lift j))
     ∷ []
 
 unfoldable pub placeOf : ℕ → ℕ → ℕ → Place
@@ -45,6 +46,7 @@ stepSpot (Check j) = spot 1 j 0
 stepSpot (Scale j) = spot 2 j 0
 stepSpot (Clear j k) = spot 3 j k
 stepSpot (Open j) = spot 4 j 0
+stepSpot (Lift j) = spot 7 j 0
 
 unfoldable pub spotOf : Place → Spot
 spotOf (At s) = stepSpot s

@@ -39,6 +39,7 @@ fn place_of(step: u64, j: u64, k: u64) -> Place
         4 => carrying_no(k, Place::At(Step::Open(j))),
         5 => carrying_no(k, Place::Stopped(j)),
         6 => carrying_no(j, carrying_no(k, Place::Done)),
+        7 => carrying_no(k, Place::At(Step::Lift(j))),
         _ => no_place(),
     }
 }
@@ -52,6 +53,7 @@ fn spot_of_step(s: Step) -> Spot
         Step::Scale(j) => Spot { step: 2, j, k: 0 },
         Step::Clear { j, k } => Spot { step: 3, j, k },
         Step::Open(j) => Spot { step: 4, j, k: 0 },
+        Step::Lift(j) => Spot { step: 7, j, k: 0 },
     }
 }
 

@@ -230,9 +230,12 @@ fn solved(p: Progress) {
     let b = call(b, 20, 23, 0, 0);
     let b = call(b, 23, 28, 0, 0);
     let b = call(b, 28, 34, 1, 2);
-    // Open(2), with the draws of both Opens, and with its own; Open(1); and a call on the record that is done
+    // Open(2), with the draws of both Opens, and with its own; Lift(2), with Open(1)'s draw, and with none; Open(1); and a call on the record that
+    // is done
     let b = call(b, 34, 36, 0, 0);
     let b = call(b, 34, 35, 0, 0);
+    let b = call(b, 35, 36, 0, 0);
+    let b = call(b, 35, 35, 0, 0);
     let b = call(b, 35, 36, 0, 0);
     call(b, 35, 36, 0, 0);
 }

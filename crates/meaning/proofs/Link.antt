@@ -15,7 +15,7 @@ use Rattle.table.specs.Steps.{mix, check, scale, clear, unknownAt, lift}
 use Rattle.table.specs.Values.{value}
 use Rattle.table.proofs.Entries.{mix-kept, clear-kept, scale-kept, lift-kept}
 use Rattle.table.proofs.Values.{kept-value, mix-value, check-value, clear-value, opens-value, lift-value, scale-value}
-use Rattle.algebra.specs.Steps.{In, Mixes, Scales, Clears, Opens}
+use Rattle.algebra.specs.Steps.{In, Mixes, Scales, Clears, Lifts}
 use Rattle.course.specs.declared.Order.{Order}
 use Rattle.meaning.specs.Meaning.{valueOf}
 
@@ -85,12 +85,11 @@ module _ (o : Order) (some : 0 < o .shares) (t : List ℕ) (lt : length t ≡ ta
     unfolding valueOf value
     opens-link ds = opens-value f n m w t lt j ds
 
-    pub lift-link : {x : ℕ} → x ≡ val j w → Opens m w (fieldOf f) j j val (valueOf o (lift f n w j j x t))
+    pub lift-link : (x : ℕ) → Lifts m w (fieldOf f) j j x val (valueOf o (lift f n w j j x t))
     unfolding valueOf value
-    lift-link {x} e =
+    lift-link x =
         record {
           new = λ s a b.
-              lift-value f n m w t lt P x (record { row-low = a; row-high = omega arith; column-low = omega arith; column-high = omega arith }) b
-              ∙ ap (λ (y : ℕ). sub (fieldOf f) (val s w) (fieldOf f .mul y (val s j))) e;
+              lift-value f n m w t lt P x (record { row-low = a; row-high = omega arith; column-low = omega arith; column-high = omega arith }) b;
           kept = λ s d R h. kept (lift f n w j j x t) s d (lift-kept n m w t lt f P x (place R) h);
         }

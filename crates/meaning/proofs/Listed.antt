@@ -8,13 +8,13 @@ use native.Mathlib.Omega.{arith}
 use native.Mathlib.Nat.{le-refl}
 use Rattle.field.specs.Field.{Ops, Field}
 use Rattle.algebra.specs.Linear.{Table, IsSolved, IsStopped}
-use Rattle.algebra.specs.Steps.{Mixes, Scales, Clears, Opens}
+use Rattle.algebra.specs.Steps.{Mixes, Scales, Clears, Lifts}
 use Rattle.algebra.proofs.Outcome.{Small}
 use Rattle.algebra.proofs.Opened as A
 use Rattle.algebra.proofs.Column as C
 use Rattle.algebra.proofs.Square.{own, stopped-at, solved-with}
 use Rattle.course.specs.declared.Step.{Step}
-use Rattle.course.specs.declared.Step.the-variants.{Mix, Check, Scale, Clear, Open}
+use Rattle.course.specs.declared.Step.the-variants.{Mix, Check, Scale, Clear, Open, Lift}
 use Rattle.course.specs.StepList.{each, column, columns, openings, stepList}
 
 -- a table that is worked on, with the unknowns opened so far; or a column that a Check stopped at
@@ -23,15 +23,16 @@ pub data Run : Type 0 where
   halted : ℕ → Run
 
 module _ (F : Ops) (m : ℕ) where
-  -- what a step may do to a run. It leaves elements; only Open writes an unknown, its own, and keeps those that were opened before it
+  -- what a step may do to a run. It leaves elements; only Open writes an unknown, its own, and keeps those that were opened before it; and Lift
+  -- takes the unknown that stands there
   pub data Acts : Step → Run → Run → Type 0 where
     mixed : {j k : ℕ} {T U : Table} {x y : ℕ → ℕ} → Small F U → Mixes m (m + 1) F j j k T U → Acts (Mix j k) (going T x) (going U y)
     passed : {j : ℕ} {T : Table} {x : ℕ → ℕ} → T j j ≢ 0 → Acts (Check j) (going T x) (going T x)
     halts : {j : ℕ} {T : Table} {x : ℕ → ℕ} → T j j ≡ 0 → Acts (Check j) (going T x) (halted j)
     scaled : {j : ℕ} {T U : Table} {x y : ℕ → ℕ} → Small F U → Scales m (m + 1) F j j T U → Acts (Scale j) (going T x) (going U y)
     cleared : {j k : ℕ} {T U : Table} {x y : ℕ → ℕ} → Small F U → Clears m (m + 1) F j j k T U → Acts (Clear j k) (going T x) (going U y)
-    opened : {j : ℕ} {T U : Table} {x y : ℕ → ℕ} → Opens m (m + 1) F j j T U → y j ≡ T j (m + 1) → ((i : ℕ) → j < i → i ≤ m → y i ≡ x i)
-        → Acts (Open j) (going T x) (going U y)
+    opened : {j : ℕ} {T : Table} {x y : ℕ → ℕ} → y j ≡ T j (m + 1) → ((i : ℕ) → j < i → i ≤ m → y i ≡ x i) → Acts (Open j) (going T x) (going T y)
+    lifted : {j : ℕ} {T U : Table} {x : ℕ → ℕ} → Lifts m (m + 1) F j j (x j) T U → Acts (Lift j) (going T x) (going U x)
     over : {s : Step} {j : ℕ} → Acts s (halted j) (halted j)
 
   pub data Performs : List Step → Run → Run → Type 0 where
@@ -113,19 +114,27 @@ module _ (F : Ops) (m : ℕ) where
       shape : C.Shape F L m (m + 1) T own m m whole
       opening : A.Opening F own m (m + 1) (A.opened F own whole m (λ r. whole r (m + 1))) n U x
 
-    all-openings : (n : ℕ) → n ≤ m → {R S : Run} → Performs (openings n) R S → Stands (Found n) R → Stands (Found 0) S
-    unfolding openings
-    all-openings zero l none h = h
-    all-openings (suc n) l (more (opened O here there) r) h =
-        all-openings n (omega arith) r
-        (record {
+    -- the unknown of row n+1 is opened, and carried into the rows above
+    next : (n : ℕ) → suc n ≤ m → {U W : Table} {x y : ℕ → ℕ} {v : ℕ} → Lifts m (m + 1) F (suc n) (suc n) v U W → v ≡ U (suc n) (m + 1)
+        → y (suc n) ≡ U (suc n) (m + 1) → ((i : ℕ) → suc n < i → i ≤ m → y i ≡ x i) → Found (suc n) U x → Found n W y
+    next n l O e here there h =
+        record {
           whole = h .whole;
           shape = h .shape;
           opening =
-              A.opening-next F own m (m + 1) (record { before = λ i a b. omega arith; apart = λ i k a b c e. omega arith }) _ n l O here there
+              A.opening-next F own m (m + 1) (record { before = λ i a b. omega arith; apart = λ i k a b c e. omega arith }) _ n l O e here there
               (h .opening);
-        })
-    all-openings (suc n) l (more over r) h = all-openings n (omega arith) r h
+        }
+
+    all-openings : (n : ℕ) → n ≤ m → {R S : Run} → Performs (openings n) R S → Stands (Found n) R → Stands (Found 0) S
+    unfolding openings
+    all-openings zero l none h = h
+    all-openings (suc zero) l (more (opened here there) none) h =
+        next 0 l (record { new = λ r a b. absurd (let z : ⊥ = omega arith in z); kept = λ r c P e. refl }) here here there h
+    all-openings (suc zero) l (more over none) h = h
+    all-openings (suc (suc n)) l (more (opened here there) (more (lifted O) r)) h =
+        all-openings (suc n) (omega arith) r (next (suc n) l O here here there h)
+    all-openings (suc (suc n)) l (more over (more over r)) h = all-openings (suc n) (omega arith) r h
 
     pub listed : (x : ℕ → ℕ) {S : Run} → Performs (stepList m) (going T x) S → Stands (λ U y. IsSolved F m T y) S
     unfolding stepList

@@ -16,7 +16,7 @@ use Rattle.table.specs.Costs.{scaleNonzero}
 use Rattle.table.specs.Layout.{tableBytes}
 use Rattle.algebra.proofs.Column.{flag-yes, flag-no}
 use Rattle.course.specs.declared.Step.{Step}
-use Rattle.course.specs.declared.Step.the-variants.{Mix, Check, Scale, Clear, Open}
+use Rattle.course.specs.declared.Step.the-variants.{Mix, Check, Scale, Clear, Open, Lift}
 use Rattle.course.specs.declared.Order.{Order}
 use Rattle.course.specs.StepList.{stepList, costOf, nonzeroCost, revealedBy, sumOver, fullNonzero}
 use Rattle.course.proofs.Within.{Within, within}
@@ -83,6 +83,7 @@ module _ (o : Order) (some : 0 < o .shares) (ms zs : List ℕ) (nonzero : NoZero
   settle-sound (Scale j) l x t g = g
   settle-sound (Clear j k) l x t g = g
   settle-sound (Open j) l x t g = g
+  settle-sound (Lift j) l x t g = g
 
   next-sound : (s : Step) (l : List Step) → Within m s → (c : Course) → SoundIn o (s ∷ l) c → SoundIn o l (then o ms zs s c)
   next-sound s l u (running t) g =
@@ -113,9 +114,9 @@ module _ (o : Order) (some : 0 < o .shares) (ms zs : List ℕ) (nonzero : NoZero
       let x : ℕ = openedAt o ms zs (Open j) t in
       let e : x ≡ valueOf o (t .left .table) j (m + 1) =
       opens-link o some (t .left .table) (g .table) (pivot (u .0) (u .1)) (drop (t .mask) ms) in
-      P.opened (lift-link o some (t .left .table) (g .table) (pivot (u .0) (u .1)) e)
-      (getD-set-same (t .left .solution) (j - 1) x 0 (omega (arith, u .0, u .1, g .places)) ∙ e)
+      P.opened (getD-set-same (t .left .solution) (j - 1) x 0 (omega (arith, u .0, u .1, g .places)) ∙ e)
       (λ i a b. getD-set-other (t .left .solution) (j - 1) (i - 1) x 0 (omega (arith, u .0)))
+  step-acts (Lift j) l u t g = P.lifted (lift-link o some (t .left .table) (g .table) (pivot (omega arith) (u .1)) (getD (t .left .solution) (j - 1) 0))
 
   next-acts : (s : Step) (l : List Step) → Within m s → (c : Course) → SoundIn o (s ∷ l) c
       → Acts (fieldOf f) m s (valuesOf o c) (valuesOf o (then o ms zs s c))

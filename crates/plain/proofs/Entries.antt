@@ -21,7 +21,7 @@ use Rattle.table.proofs.Cells.{entry-length, rowFrom-length, in-row, putRow-len
 use Rattle.table.proofs.Entries.{lift-kept, lift-at}
 use Rattle.table.proofs.Lengths.{lift-length}
 use Rattle.table.proofs.Elements.{part-below, put-below, lift-below}
-use Rattle.algebra.specs.Steps.{In, RowIs, Exchanges, Scales, Clears, Opens}
+use Rattle.algebra.specs.Steps.{In, RowIs, Exchanges, Scales, Clears, Lifts}
 use Rattle.plain.specs.Elimination.{at, exchange, scale, clear}
 
 -- ---- a byte of a list
@@ -154,8 +154,8 @@ module _ (f m w : ℕ) (t : List ℕ) (E : Elements f m w t) where
 
   -- ---- lift
 
-  module _ {j : ℕ} (P : In m w j j) {x : ℕ} (e : x ≡ at w t j w) where
-    pub lift-is : Opens m w F j j (at w t) (at w (lift f 1 w j j x t))
+  module _ {j : ℕ} (P : In m w j j) (x : ℕ) where
+    pub lift-is : Lifts m w F j j x (at w t) (at w (lift f 1 w j j x t))
     lift-is =
         record {
           new = λ r a b.
@@ -164,7 +164,7 @@ module _ (f m w : ℕ) (t : List ℕ) (E : Elements f m w t) where
               at-entry w r w _ ∙ ap (λ (y : List ℕ). getD y 0 0) (lift-at 1 m w t (E .size) f (place P) x Q b)
               ∙ joined-at (sub F) (entry 1 w r w t) _ 0 (omega (arith, entry-length 1 m w t (E .size) Q))
               ∙ ap₂ (sub F) (sym (at-entry w r w t))
-              (scaled-at F x (entry 1 w r j t) 0 (omega (arith, entry-length 1 m w t (E .size) S)) ∙ ap₂ (F .mul) e (sym (at-entry w r j t)));
+              (scaled-at F x (entry 1 w r j t) 0 (omega (arith, entry-length 1 m w t (E .size) S)) ∙ ap (F .mul x) (sym (at-entry w r j t)));
           kept = λ r c Q h. at-same w r c r c _ t (lift-kept 1 m w t (E .size) f (place P) x (place Q) h);
         }
 

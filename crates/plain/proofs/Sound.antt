@@ -142,9 +142,9 @@ module _ (f m : ℕ) where
       let P : In m w (suc n) (suc n) = (omega arith, l, omega arith, omega arith) in
       let u : List ℕ = lift f 1 w (suc n) (suc n) v t in
       rw (unknowns-on f m {n = suc n} {left = n} t x {v = v} refl refl)
-      (found X n u (set x n v) (omega arith) (lift-elements f m w t E P refl) (length-set x n v ∙ lx)
+      (found X n u (set x n v) (omega arith) (lift-elements f m w t E P v) (length-set x n v ∙ lx)
       (A.opening-next F own m w (record { before = λ i a b. (a, omega arith); apart = λ i k a b c e. omega arith }) X n l
-      (lift-is f m w t E P refl)
+      (lift-is f m w t E P v) refl
       (rw (sub-one (suc n)) (getD-set-same x n v 0 (omega arith)))
       (λ i a b. getD-set-other x n (i - 1) v 0 (λ e. omega arith))
       O))

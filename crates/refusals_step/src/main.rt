@@ -47,6 +47,7 @@ fn step_in_one(s: Step) -> Drawn {
         Step::Scale(_) => taken(5, 0),
         Step::Clear { j: _, k: _ } => taken(0, 0),
         Step::Open(_) => taken(11, 1),
+        Step::Lift(_) => taken(0, 0),
     }
 }
 
@@ -70,6 +71,7 @@ fn step_in_two(s: Step) -> Drawn {
         Step::Scale(j) => by_column(j, taken(12, 0), taken(28, 1)),
         Step::Clear { j: _, k: _ } => taken(20, 1),
         Step::Open(j) => by_column(j, taken(35, 2), taken(34, 2)),
+        Step::Lift(_) => taken(35, 2),
     }
 }
 
@@ -187,6 +189,10 @@ fn open(j: u64) -> Place {
     Place::At(Step::Open(j))
 }
 
+fn lift(j: u64) -> Place {
+    Place::At(Step::Lift(j))
+}
+
 fn mix(j: u64, k: u64) -> Place {
     Place::At(Step::Mix { j, k })
 }
@@ -252,6 +258,8 @@ fn steps_off_list() {
     made_up(b"Clear with j = k", clear(1, 1));
     made_up(b"Open(2)", open(2));
     made_up(b"Open with j = 2^64-1", open(LARGEST));
+    made_up(b"Lift(1)", lift(1));
+    made_up(b"Lift with j = 2^64-1", lift(LARGEST));
 }
 
 fn steps_at_end() {
@@ -410,6 +418,23 @@ fn clears_of_two() {
     step_two(b"Open(2), accepted", open(2), &a[..1], &[]);
 }
 
+// Lift(2) of two equations in two shares over F16, with this for the solution.
+fn lift_two(words: &[u8], solution: &[u8], mask: &[u8], nonzero: &[u8]) {
+    let p = at(order(16, 2, 2), lift(2));
+    step(words, p, &TWO, solution, mask, nonzero);
+}
+
+fn lifts_of_two() {
+    let words = b"Lift where x_2 is 16";
+    lift_two(words, &[0xee, 0x10], &[], &[]);
+    let words = b"the same, and a mask byte where none is wanted";
+    lift_two(words, &[0xee, 0x10], &[0xba], &[]);
+    let words = b"the same, and a nonzero draw of 0";
+    lift_two(words, &[0xee, 0x10], &[], &[0]);
+    let words = b"Lift, where another byte of the solution is 238, accepted";
+    lift_two(words, &[0xee, 0x0e], &[], &[]);
+}
+
 // Two equations in two shares over F16, with a large byte in the table and no tapes: 10 goes before 19, and 19 before 11, 6 and 7.
 fn counters(words: &[u8], place: Place, mask: u64, nonzero: u64) {
     let p = with(order(16, 2, 2), place, taken(mask, nonzero));
@@ -477,6 +502,7 @@ fn wanted_off_list() {
     let o = order(16, 2, 2);
     wanted(b"k no larger than j", o, mix(2, 2));
     wanted(b"column 3 of 2", o, open(3));
+    wanted(b"Lift(1)", o, lift(1));
     wanted(b"stopped at column 3 of 2", o, Place::Stopped(3));
     wanted(b"stopped", o, Place::Stopped(1));
     wanted(b"done", o, Place::Done);
@@ -506,6 +532,7 @@ fn wanted_on_list() {
     wanted(b"Scale, accepted", o, scale(1));
     wanted(b"Clear, accepted", o, clear(1, 2));
     wanted(b"Open, accepted", o, open(2));
+    wanted(b"Lift, accepted", o, lift(2));
 }
 
 fn steps_of_counters() {
@@ -538,6 +565,7 @@ fn main() {
     mixes_of_two();
     scales_of_two();
     clears_of_two();
+    lifts_of_two();
     steps_of_counters();
     wants();
 }

@@ -1,7 +1,7 @@
 -- 01, "Sizes and layout": the limits, and what follows from them for costs and for the room that the code keeps. The prover multiplies them
 -- out, so another limit is another number here and in the constants of sharing/src.
 -- Assumes nothing.
-use Prim.Native.Nat.{ℕ, _+_, _*_, _/_}
+use Prim.Native.Nat.{ℕ, _+_, _-_, _*_, _/_}
 
 -- the size of a system is 1 to 96; a row has an entry for each column of A, and one of b
 abbrev pub mostRows : ℕ
@@ -13,9 +13,9 @@ mostWidth = 97
 abbrev pub mostEntries : ℕ
 mostEntries = mostRows * mostWidth
 
--- m(m+2) steps
+-- m²+3m-1 steps
 abbrev pub mostSteps : ℕ
-mostSteps = mostRows * (mostRows + 2)
+mostSteps = mostRows * (mostRows + 3) - 1
 
 -- the draws of a Scale of a whole row in four shares; no step takes more
 abbrev pub mostDraws : ℕ

@@ -152,7 +152,7 @@ fn look_up16(s: &mut [u8], z: u8)
     }
 }
 
-// Every share times z where z was opened, as Open's x_j and the last factor of an inversion are.
+// Every share times z where z was opened, as Lift's x_j and the last factor of an inversion are.
 pub fn scale_opened(f: u64, s: &mut [u8], z: u8)
     ensures { λ r. ⌜ now (s .exit) ≡ scaled (fieldOf f) z (now (s .entry)) ⌝ }
 {

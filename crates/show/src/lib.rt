@@ -54,6 +54,8 @@ pub const CLEAR: u64 = 23;
 
 pub const OPEN: u64 = 24;
 
+pub const LIFT: u64 = 25;
+
 pub fn tell(word: u64, a: u64, b: u64, c: u64) -> Words {
     Words {
         word,
@@ -144,6 +146,7 @@ fn of_step(s: Step) -> Words {
         Step::Scale(j) => tell(SCALE, j, 0, 0),
         Step::Clear { j, k } => tell(CLEAR, j, k, 0),
         Step::Open(j) => tell(OPEN, j, 0, 0),
+        Step::Lift(j) => tell(LIFT, j, 0, 0),
     }
 }
 
@@ -235,6 +238,7 @@ pub fn say_place(t: Words) {
         SCALE => single(b"Scale(", t.a),
         CLEAR => pair(b"Clear(", t.a, t.b),
         OPEN => single(b"Open(", t.a),
+        LIFT => single(b"Lift(", t.a),
         STOPPED => single(b"Stopped(", t.a),
         _ => text(b"Done"),
     }

@@ -20,7 +20,7 @@ use Rattle.table.specs.Costs.{scaleNonzero}
 use Rattle.table.specs.Values.{value}
 use Rattle.table.proofs.Values.{pivot-zero, zero-pivot}
 use Rattle.course.specs.declared.Step.{Step}
-use Rattle.course.specs.declared.Step.the-variants.{Mix, Check, Scale, Clear, Open}
+use Rattle.course.specs.declared.Step.the-variants.{Mix, Check, Scale, Clear, Open, Lift}
 use Rattle.course.specs.declared.Place.{Place}
 use Rattle.course.specs.declared.Place.the-variants.{At, Stopped, Done}
 use Rattle.course.specs.declared.Order.{Order}
@@ -33,7 +33,7 @@ use Rattle.course.proofs.Closed.{mask-closed, nonzero-closed}
 use Rattle.walk.proofs.Acted.{pivot}
 use Rattle.verdict.specs.Told.{Told, passed, _or_}
 use Rattle.verdict.specs.Refusals.{outside, no4, no5, no6, no7, no8, no9, no14, no15, buffers}
-use Rattle.solver.specs.Refusals.{placed, ended, entries, wholeTable, tableRows, valueRows, dealDraws, costAt, maskAt, nonzeroAt, zeroPivot, no10, no11, no12, no19, sizes, dealOrder, gatherOrder, tapes, solveOrder, standing, wantedOrder, placing, lending, stepOrder}
+use Rattle.solver.specs.Refusals.{placed, ended, entries, wholeTable, tableRows, valueRows, dealDraws, costAt, maskAt, nonzeroAt, zeroPivot, no10, no11, liftRefused, no20, no12, no19, sizes, dealOrder, gatherOrder, tapes, solveOrder, standing, wantedOrder, placing, lending, stepOrder}
 use Rattle.verdict.proofs.Told.{left, right, not-then}
 use Rattle.verdict.proofs.Passes.{numbered, same, enough, six-says, nine-says, Buffers, buffered}
 
@@ -205,28 +205,40 @@ pub record Going (o : Order) (place : Place) (t : List ℕ) (solution mask : ℕ
   pub elements : Below (fieldOf (o .field) .q) t
   pub lent : Supplied o place mask nonzero
 
-module _ (p : Progress) (t : List ℕ) (solution mask : ℕ) (nonzero : List ℕ) where
+module _ (p : Progress) (t x : List ℕ) (mask : ℕ) (nonzero : List ℕ) where
+  abbrev after-lending : Told
+  after-lending = no20 (orderOf p) (p .place) x or no12 (orderOf p) (p .place) t
+
   abbrev after-sizes : Told
-  after-sizes = placing p (length t) solution or (no6 (p .field) (tableRows (orderOf p)) t or (lending (orderOf p) (p .place) mask nonzero or no12 (orderOf p) (p .place) t))
+  after-sizes = placing p (length t) (length x) or (no6 (p .field) (tableRows (orderOf p)) t or (lending (orderOf p) (p .place) mask nonzero or after-lending))
 
   -- its counters match then
-  pub going-matched : stepOrder p t solution mask nonzero ≡ passed → counted p ≡ true
+  pub going-matched : stepOrder p t x mask nonzero ≡ passed → counted p ≡ true
   unfolding stepOrder
-  going-matched e = stood p (length t) solution (left (placing p (length t) solution) _ (right (sizes (orderOf p)) after-sizes e)) .matched
+  going-matched e = stood p (length t) (length x) (left (placing p (length t) (length x)) _ (right (sizes (orderOf p)) after-sizes e)) .matched
 
-pub going : (p : Progress) (t : List ℕ) (solution mask : ℕ) (nonzero : List ℕ) → stepOrder p t solution mask nonzero ≡ passed → Going (orderOf p) (p .place) t solution mask nonzero
+  -- and the byte that a Lift reads is an element
+  pub going-lifts : stepOrder p t x mask nonzero ≡ passed → no20 (orderOf p) (p .place) x ≡ passed
+  unfolding stepOrder
+  going-lifts e =
+      left (no20 (orderOf p) (p .place) x) (no12 (orderOf p) (p .place) t)
+      (right (lending (orderOf p) (p .place) mask nonzero) after-lending
+      (right (no6 (p .field) (tableRows (orderOf p)) t) _ (right (placing p (length t) (length x)) _ (right (sizes (orderOf p)) after-sizes e))))
+
+pub going : (p : Progress) (t x : List ℕ) (mask : ℕ) (nonzero : List ℕ) → stepOrder p t x mask nonzero ≡ passed → Going (orderOf p) (p .place) t (length x) mask nonzero
 unfolding stepOrder
-going p t solution mask nonzero e =
+going p t x mask nonzero e =
     let o = orderOf p in
     let place = p .place in
-    let a = placing p (length t) solution in
+    let a = placing p (length t) (length x) in
     let b = no6 (o .field) (tableRows o) t in
     let c = lending o place mask nonzero in
-    let late : a or (b or (c or no12 o place t)) ≡ passed = right (sizes o) _ e in
-    let last : b or (c or no12 o place t) ≡ passed = right a _ late in
+    let d = no20 o place x or no12 o place t in
+    let late : a or (b or (c or d)) ≡ passed = right (sizes o) _ e in
+    let last : b or (c or d) ≡ passed = right a _ late in
     record {
       sizes = sized o (left (sizes o) _ e);
-      at = placing-says p (length t) solution (left a _ late);
+      at = placing-says p (length t) (length x) (left a _ late);
       elements = six-says (o .field) (tableRows o) t (left b _ last);
       lent = lending-says o place mask nonzero (left c _ (right b _ last));
     }
@@ -242,9 +254,9 @@ both-zero a b there back = elim (ℕ-discrete a 0) [
   | no n ↦ ne-eqb a 0 n ∙ sym (ne-eqb b 0 (λ e. n (back e)))
 ]
 
--- a step is none of the four others
-pub not-of-four : {A B C D : Type 0} → (A → ⊥) → (B → ⊥) → (C → ⊥) → (D → ⊥) → A ⊎ (B ⊎ (C ⊎ D)) → ⊥
-not-of-four a b c d s = ⊎-elim a (⊎-elim b (⊎-elim c d)) s
+-- a step is none of the five others
+pub not-of-five : {A B C D E : Type 0} → (A → ⊥) → (B → ⊥) → (C → ⊥) → (D → ⊥) → (E → ⊥) → A ⊎ (B ⊎ (C ⊎ (D ⊎ E))) → ⊥
+not-of-five a b c d e s = ⊎-elim a (⊎-elim b (⊎-elim c (⊎-elim d e))) s
 
 -- a place that is no Scale has no pivot
 pub no-pivot : (o : Order) (place : Place) (t : List ℕ) → ((j : ℕ) → place ≡ At (Scale j) → ⊥) → passed ≡ no12 o place t
@@ -254,8 +266,21 @@ no-pivot o (At (Check j)) t n = refl
 no-pivot o (At (Scale j)) t n = absurd (n j refl)
 no-pivot o (At (Clear j k)) t n = refl
 no-pivot o (At (Open j)) t n = refl
+no-pivot o (At (Lift j)) t n = refl
 no-pivot o (Stopped j) t n = refl
 no-pivot o Done t n = refl
+
+-- and one that is no Lift reads no byte of the solution
+pub no-lift : (o : Order) (place : Place) (x : List ℕ) → ((j : ℕ) → place ≡ At (Lift j) → ⊥) → passed ≡ no20 o place x
+unfolding no20 liftRefused
+no-lift o (At (Mix j k)) x n = refl
+no-lift o (At (Check j)) x n = refl
+no-lift o (At (Scale j)) x n = refl
+no-lift o (At (Clear j k)) x n = refl
+no-lift o (At (Open j)) x n = refl
+no-lift o (At (Lift j)) x n = absurd (n j refl)
+no-lift o (Stopped j) x n = refl
+no-lift o Done x n = refl
 
 -- the pivot's place of a Scale
 pub pivot-cell : (o : Order) (j : ℕ) → inList (o .size) (Scale j) ≡ true → Inside (o .size) (o .size + 1) j j

@@ -139,7 +139,7 @@ stepDoes p P.Done h mask nonzero = after (gives moved) (lent p h)
 
 unfoldable pub stepCall : Progress → Held → List ℕ → List ℕ → Outcome Stride Lent
 stepCall p h mask nonzero =
-    call (stepOrder p (h .table) (length (h .solution)) (length mask) nonzero) (lent p h)
+    call (stepOrder p (h .table) (h .solution) (length mask) nonzero) (lent p h)
     (stepDoes p (p .place) h mask nonzero)
 
 -- ---- Wanted: the mask draws and the nonzero draws of the record's place, which Step asks for (7, 14, 8, 15); or refusal 1, 2, 3, 10, 19, 11

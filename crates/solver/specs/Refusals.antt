@@ -1,14 +1,16 @@
--- 01's refusals 10 to 12 and R-5's 19, which are about a progress record, and the order of each call. The others stand in crate verdict.
+-- 01's refusals 10 to 12, R-5's 19 and R-7's 20, which are about a progress record, and the order of each call. The others stand in crate verdict.
 -- Assumes nothing.
 use mathlib.Core.Bool.{Bool, true, false, not}
 use mathlib.Core.List.{List, [], _∷_}
 use Prim.Native.Nat.{ℕ, _+_, _-_, _*_}
 use lib.Dec.{eqb}
-use lib.ListN.{length, take}
+use lib.ListN.{length, take, getD}
 use Rattle.field.specs.Field.{fieldOf}
 use Rattle.sharing.specs.Rules.{sum}
 use Rattle.table.specs.Layout.{tableBytes, entry}
 use Rattle.course.specs.declared.Draws.{Draws}
+use Rattle.course.specs.declared.Step.{Step}
+use Rattle.course.specs.declared.Step.the-variants.{Mix, Check, Scale, Clear, Open, Lift}
 use Rattle.course.specs.declared.Place.{Place}
 use Rattle.course.specs.declared.Place.the-variants.{At, Stopped, Done}
 use Rattle.course.specs.declared.Order.{Order}
@@ -17,8 +19,8 @@ use Rattle.course.specs.StepList.{inList, draws, costOf, Revealed, None, Flag, 
 use Rattle.course.specs.Next.{orderOf, counted}
 use Rattle.verdict.specs.declared.Rows.{Rows}
 use Rattle.verdict.specs.declared.Rows.the-variants.{Shared, Values}
-use Rattle.verdict.specs.Told.{Told, refuse, _or_}
-use Rattle.verdict.specs.Refusals.{outside, no4, no5, no6, no7, no8, no9, no14, no15, numbers, buffers}
+use Rattle.verdict.specs.Told.{Told, passed, refuse, _or_}
+use Rattle.verdict.specs.Refusals.{outside, tooLarge, no4, no5, no6, no7, no8, no9, no14, no15, numbers, buffers}
 
 -- ---- what the table's words mean
 
@@ -97,6 +99,20 @@ no19 p = refuse 19 (not (counted p)) (0 ∷ [])
 unfoldable pub no11 : Place → Told
 no11 place = refuse 11 (ended place) (0 ∷ [])
 
+-- Lift in F16 where the solution byte that it reads is 16 or more: j
+unfoldable pub liftRefused : ℕ → Step → List ℕ → Told
+liftRefused f (Mix j k) x = passed
+liftRefused f (Check j) x = passed
+liftRefused f (Scale j) x = passed
+liftRefused f (Clear j k) x = passed
+liftRefused f (Open j) x = passed
+liftRefused f (Lift j) x = refuse 20 (tooLarge f (getD x (j - 1) 0)) (j ∷ [])
+
+unfoldable pub no20 : Order → Place → List ℕ → Told
+no20 o (At s) x = liftRefused (o .field) s x
+no20 o (Stopped j) x = passed
+no20 o Done x = passed
+
 -- Scale where the pivot's value is 0: row, column and share, which are j, j and 0
 unfoldable pub no12 : Order → Place → List ℕ → Told
 no12 o place t =
@@ -159,12 +175,12 @@ lending o place mask nonzero =
     or no15 (nonzeroAt o place) (length nonzero)
     or no9 (o .field) nonzero
 
--- Step: 1 to 5, 10, 19, 11, 6, 7, 14, 8, 15, 9, 12
-unfoldable pub stepOrder : Progress → List ℕ → ℕ → ℕ → List ℕ → Told
-stepOrder p t solution mask nonzero =
+-- Step: 1 to 5, 10, 19, 11, 6, 7, 14, 8, 15, 9, 20, 12
+unfoldable pub stepOrder : Progress → List ℕ → List ℕ → ℕ → List ℕ → Told
+stepOrder p t x mask nonzero =
     let o = orderOf p in
     sizes o
-    or (placing p (length t) solution
+    or (placing p (length t) (length x)
     or (no6 (o .field) (tableRows o) t
     or (lending o (p .place) mask nonzero
-    or no12 o (p .place) t)))
+    or (no20 o (p .place) x or no12 o (p .place) t))))

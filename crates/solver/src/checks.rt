@@ -1,4 +1,4 @@
-// The checks of the public calls: the order of each, with refusals 10 to 12 and 19, which are about a progress record. Nothing lent is written.
+// The checks of the public calls: the order of each, with refusals 10 to 12, 19 and 20, which are about a progress record. Nothing lent is written.
 ghost use mathlib.Core.Path.{_≡_};
 ghost use mathlib.Core.Bool.{true, not, _&&_};
 ghost use Prim.Native.Nat.{_≤_};
@@ -8,7 +8,7 @@ ghost use Rattle.course.specs.StepList.{Sizes};
 ghost use Rattle.course.specs.Next.{orderOf, counted};
 ghost use Rattle.verdict.specs.Told.{passed, _or_};
 ghost use Rattle.verdict.specs.Refusals.{no7, no9, buffers};
-ghost use Rattle.solver.specs.Refusals.{placed, ended, entries, wholeTable, tableRows, valueRows, dealDraws, costAt, maskAt, nonzeroAt, no12, sizes, dealOrder, gatherOrder, tapes, solveOrder, standing, wantedOrder, placing, lending, stepOrder};
+ghost use Rattle.solver.specs.Refusals.{placed, ended, entries, wholeTable, tableRows, valueRows, dealDraws, costAt, maskAt, nonzeroAt, no20, no12, sizes, dealOrder, gatherOrder, tapes, solveOrder, standing, wantedOrder, placing, lending, stepOrder};
 ghost use Rattle.solver.specs.Code.Fault.{faultOf};
 ghost use Rattle.verdict.specs.Code.Verdicts.{told};
 ghost use Rattle.verdict.specs.Cells.{NonEmpty};
@@ -303,6 +303,22 @@ fn lending(o: Order, p: Place, mask: usize, nonzero: &[u8]) -> Verdict
     verdict::no9(o.field, nonzero)
 }
 
+// 20: whether the byte that a Lift reads is no element.
+fn no20(o: Order, p: Place, solution: &[u8]) -> Verdict
+    requires { ⌜ placed (o .size) p ≡ true ⌝ }
+    requires { ⌜ length (now solution) ≡ o .size ⌝ }
+    ensures { λ r. ⌜ told r ≡ no20 o p (now (solution .entry)) ⌝ }
+{
+    let Place::At(s) = p else {
+        return Verdict::Pass;
+    };
+    let Step::Lift(j) = s else {
+        return Verdict::Pass;
+    };
+    let x = solution[j as usize - 1];
+    verdict::refuse_if(verdict::is_too_large(o.field, x), Refusal::LiftByte(j))
+}
+
 // 12: whether the pivot of a Scale is 0, by opening it blinded, on copies: the shares are never summed bare.
 fn no12(o: Order, p: Place, table: &[u8], mask: &[u8], nonzero: &[u8]) -> Verdict
     requires { ⌜ Sizes o ⌝ }
@@ -332,9 +348,9 @@ fn no12(o: Order, p: Place, table: &[u8], mask: &[u8], nonzero: &[u8]) -> Verdic
     )
 }
 
-// 1 to 5, 10, 19, 11, 6, 7, 14, 8, 15, 9, 12
-pub fn step(p: Progress, table: &[u8], solution: usize, mask: &[u8], nonzero: &[u8]) -> Verdict
-    ensures { λ r. ⌜ told r ≡ stepOrder p (now (table .entry)) solution (length (now (mask .entry))) (now (nonzero .entry)) ⌝ }
+// 1 to 5, 10, 19, 11, 6, 7, 14, 8, 15, 9, 20, 12
+pub fn step(p: Progress, table: &[u8], solution: &[u8], mask: &[u8], nonzero: &[u8]) -> Verdict
+    ensures { λ r. ⌜ told r ≡ stepOrder p (now (table .entry)) (now (solution .entry)) (length (now (mask .entry))) (now (nonzero .entry)) ⌝ }
 {
     let o = Order {
         field: p.field,
@@ -346,7 +362,7 @@ pub fn step(p: Progress, table: &[u8], solution: usize, mask: &[u8], nonzero: &[
     let Verdict::Pass = v else {
         return v;
     };
-    let w = placing(p, table.len(), solution);
+    let w = placing(p, table.len(), solution.len());
     let Verdict::Pass = w else {
         return w;
     };
@@ -358,5 +374,6 @@ pub fn step(p: Progress, table: &[u8], solution: usize, mask: &[u8], nonzero: &[
     let Verdict::Pass = y else {
         return y;
     };
-    no12(o, place, table, mask, nonzero)
+    let z = no20(o, place, solution);
+    verdict::or_else(z, no12(o, place, table, mask, nonzero))
 }

@@ -221,7 +221,7 @@ pub fn step(
         size: p.size,
     };
     let place = p.place;
-    match checks::step(p, &table[..], solution.len(), mask, nonzero) {
+    match checks::step(p, &table[..], &solution[..], mask, nonzero) {
         Verdict::Refuse(r) => Stepped {
             answer: Stepping::Refused(r),
             next: p,

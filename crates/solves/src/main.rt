@@ -137,14 +137,14 @@ fn one(r: Run, table: &mut [u8], x: &mut [u8], mask: &[u8]) -> Run {
     }
 }
 
-// All steps of the list: the largest one has 35.
+// All steps of the list: the largest one has 39.
 fn steps(p: Progress, table: &mut [u8], x: &mut [u8], mask: &[u8]) {
     let mut r = Run {
         record: p,
         mask: 0,
         nonzero: 0,
     };
-    for _ in 0usize..35 {
+    for _ in 0usize..39 {
         r = one(r, table, x, mask);
     }
 }

@@ -1,3 +1,4 @@
 pub mod Rows
 pub mod Starred
 pub mod Vectors
+pub mod Lifted

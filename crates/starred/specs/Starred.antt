@@ -1,4 +1,4 @@
--- 01, "Examples": the starred ones. Each row has what the definitions give, worked out, and what 01 says.
+-- 01, "Examples": the starred ones. Each row has what the definitions give, worked out, and what 01 says, or 02 where it overrules 01.
 -- Assumes nothing.
 use mathlib.Core.List.{List, [], _∷_, _++_}
 use mathlib.Core.Path.{refl}
@@ -52,9 +52,9 @@ rows =
     ∷ row (system 2 (0 ∷ 1 ∷ 5 ∷ 1 ∷ 0 ∷ 7 ∷ [])) (0 ∷ 7 ∷ 5 ∷ [])
     -- rows (1,2),(2,4), b=(1,2), which fits: stopped 2
     ∷ row (system 2 (1 ∷ 2 ∷ 1 ∷ 2 ∷ 4 ∷ 2 ∷ [])) (2 ∷ 0 ∷ 0 ∷ [])
-    -- counts (steps, mask, nonzero): n=2, m=1: 3,12,1; n=2, m=2: 8,36,2
+    -- counts (steps, mask, nonzero): n=2, m=1: 3,12,1; n=2, m=2: 8,36,2 in 01, where R-7 of 02 has a step more, Lift(2)
     ∷ row (counted (sums (order 16 2 1) (stepList 1))) (3 ∷ 12 ∷ 1 ∷ [])
-    ∷ row (counted (sums (order 16 2 2) (stepList 2))) (8 ∷ 36 ∷ 2 ∷ [])
+    ∷ row (counted (sums (order 16 2 2) (stepList 2))) (9 ∷ 36 ∷ 2 ∷ [])
     ∷ []
 
 pub starred : Holds rows

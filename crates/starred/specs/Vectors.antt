@@ -10,7 +10,7 @@ use Rattle.sharing.specs.Rules.{refresh, pairRefresh, product, blinded, blinded
 use Rattle.flag.specs.Flag.{andOf, zeroFlag}
 use Rattle.course.specs.declared.Order.{Order}
 use Rattle.course.specs.declared.Step.{Step}
-use Rattle.course.specs.declared.Step.the-variants.{Mix, Check, Scale, Clear, Open}
+use Rattle.course.specs.declared.Step.the-variants.{Mix, Check, Scale, Clear, Open, Lift}
 use Rattle.walk.specs.declared.Ending.{Ending}
 use Rattle.walk.specs.declared.Ending.the-variants.{Solved, Stopped}
 use Rattle.walk.specs.Act.{Held, held, opened, acted}
@@ -46,6 +46,10 @@ lent o t = held t (replicate (o .size) 0xee)
 -- one step: the number that it opens, and what it leaves
 unfoldable pub step : Order → Step → List ℕ → List ℕ → List ℕ → List ℕ
 step o s ds nz t = leaves (opened o s ds (lent o t) ∷ []) (acted o s ds nz (lent o t))
+
+-- Lift(j), which takes no draws and reads the solution
+unfoldable pub lift : Order → ℕ → List ℕ → List ℕ → List ℕ
+lift o j t x = leaves (opened o (Lift j) [] (held t x) ∷ []) (acted o (Lift j) [] [] (held t x))
 
 -- 0 for solved, j for stopped at j; then the steps, mask draws and nonzero draws taken
 unfoldable pub said : Ending → List ℕ
@@ -216,37 +220,52 @@ rows =
     (left (0 ∷ []) (bytes 48 0x05060b08_0306020d_020b0304_01010701_07040905_040e0209_010c0208_00000901_010c0c08_080a0604_08030906_00010603) (bytes 3 0xee_ee_ee))
     -- F16, n = 2: Open where T[2,3] is 6
     ∷ row (step (order 16 2 2) (Open 2) (draws 29 1) [] (bytes 12 0x0601_0d05_0b08_0105_0107_0305))
-    (left (6 ∷ []) (bytes 12 0x0601_0d05_0305_0105_0107_0305) (bytes 2 0xee_06))
+    (left (6 ∷ []) (bytes 12 0x0601_0d05_0b08_0105_0107_0305) (bytes 2 0xee_06))
     -- F256, n = 3: Open where T[3,4] is 201
     ∷ row (step (order 256 3 3) (Open 3) (draws 228 3) [] (bytes 36 0xc70d1f_52c3fa_911d70_63b3f0_870c14_82e3f7_2cbf65_abf1de_1bf325_b4859d_adb413_870947))
-    (left (201 ∷ []) (bytes 36 0xc70d1f_52c3fa_911d70_b5450c_870c14_82e3f7_2cbf65_f8fdc6_1bf325_b4859d_adb413_870947) (bytes 3 0xee_ee_c9))
+    (left (201 ∷ []) (bytes 36 0xc70d1f_52c3fa_911d70_63b3f0_870c14_82e3f7_2cbf65_abf1de_1bf325_b4859d_adb413_870947) (bytes 3 0xee_ee_c9))
     -- F16, n = 4: Open where T[2,4] is 14
     ∷ row (step (order 16 4 3) (Open 2) (draws 74 6) [] (bytes 48 0x0808010f_0b0d0005_000f0306_09020203_00000d0c_0e0a090e_01070f02_08040f0d_04040800_0401080b_0400010a_02020905))
-    (left (14 ∷ []) (bytes 48 0x0808010f_0b0d0005_000f0306_01080200_00000d0c_0e0a090e_01070f02_08040f0d_04040800_0401080b_0400010a_02020905) (bytes 3 0xee_0e_ee))
+    (left (14 ∷ []) (bytes 48 0x0808010f_0b0d0005_000f0306_09020203_00000d0c_0e0a090e_01070f02_08040f0d_04040800_0401080b_0400010a_02020905) (bytes 3 0xee_0e_ee))
     -- F16, n = 3: Open where T[1,3] is 9
     ∷ row (step (order 16 3 2) (Open 1) (draws 161 3) [] (bytes 18 0x090403_0d030f_000e07_0b040c_0c0800_030e09))
     (left (9 ∷ []) (bytes 18 0x090403_0d030f_000e07_0b040c_0c0800_030e09) (bytes 2 0x09_ee))
+    -- F16, n = 2: Lift where x_2 is 6
+    ∷ row (lift (order 16 2 2) 2 (bytes 12 0x0a0f_040a_0c01_0006_0e07_0402) (bytes 2 0xee_06))
+    (left (0 ∷ []) (bytes 12 0x0a0f_040a_0708_0006_0e07_0402) (bytes 2 0xee_06))
+    -- F256, n = 3: Lift where x_3 is 201
+    ∷ row (lift (order 256 3 3) 3 (bytes 36 0x0bfbe6_072484_4f3eee_1334c8_1224cd_c41adc_72b2c7_e5d19e_f1c14b_ac1078_b5bb98_3b84b7) (bytes 3 0xee_ee_c9))
+    (left (0 ∷ []) (bytes 36 0x0bfbe6_072484_4f3eee_d8cab9_1224cd_c41adc_72b2c7_900f7c_f1c14b_ac1078_b5bb98_3b84b7) (bytes 3 0xee_ee_c9))
+    -- F16, n = 4: Lift where x_2 is 14
+    ∷ row (lift (order 16 4 3) 2 (bytes 48 0x0c060804_0c060f07_0d0f040e_040a0b05_0805040f_0004090e_0604050a_020f070d_0908030f_00010409_06040d0a_09050102) (bytes 3 0xee_0e_ee))
+    (left (0 ∷ []) (bytes 48 0x0c060804_0c060f07_0d0f040e_00080e09_0805040f_0004090e_0604050a_020f070d_0908030f_00010409_06040d0a_09050102) (bytes 3 0xee_0e_ee))
+    -- F256, n = 2: Lift where x_3 is 1
+    ∷ row (lift (order 256 2 3) 3 (bytes 24 0xad72_cae1_d448_aecf_2c6c_74b4_d730_aa66_364e_962c_7803_c1fe) (bytes 3 0xee_ee_01))
+    (left (0 ∷ []) (bytes 24 0xad72_cae1_d448_7a87_2c6c_74b4_d730_7d56_364e_962c_7803_c1fe) (bytes 3 0xee_ee_01))
+    -- F16, n = 3: Lift where x_2 is 0
+    ∷ row (lift (order 16 3 2) 2 (bytes 18 0x0e0d0c_0e0c0b_0e070b_08040a_0a0608_060408) (bytes 2 0xee_00))
+    (left (0 ∷ []) (bytes 18 0x0e0d0c_0e0c0b_0e070b_08040a_0a0608_060408) (bytes 2 0xee_00))
     -- F16, n = 2: a whole solve, solved
     ∷ row (solve (order 16 2 3) (draws 135 76) (bytes 3 0x7a_29_c5) (bytes 24 0x0909_0606_0300_0601_0a08_0202_0001_0c09_0f0e_0501_0d04_0204))
-    (left (0 ∷ 15 ∷ 76 ∷ 3 ∷ []) (bytes 24 0x0c0d_0c0c_0302_0508_0303_0908_090f_040a_0303_0b0b_0b0a_000c) (bytes 3 0x0d_0e_0c))
+    (left (0 ∷ 17 ∷ 76 ∷ 3 ∷ []) (bytes 24 0x0c0d_0c0c_0302_0508_0303_0908_090f_040a_0303_0b0b_0b0a_000c) (bytes 3 0x0d_0e_0c))
     -- F16, n = 2: a whole solve, stopped at 2
     ∷ row (solve (order 16 2 2) (draws 221 36) (bytes 2 0x1d_db) (bytes 12 0x0a0b_080a_0b0a_0604_0a0e_0200))
     (left (2 ∷ 5 ∷ 28 ∷ 1 ∷ []) (bytes 12 0x0706_0c0e_0809_0808_0909_0808) (bytes 2 0x00_00))
     -- F16, n = 3: a whole solve, solved
     ∷ row (solve (order 16 3 2) (draws 180 110) (bytes 4 0xee_82_6b_b9) (bytes 18 0x0b0308_040306_050909_030200_050603_0b0b07))
-    (left (0 ∷ 8 ∷ 110 ∷ 4 ∷ []) (bytes 18 0x0a060d_0a0308_0a010c_060600_0b0b01_09030f) (bytes 2 0x07_05))
+    (left (0 ∷ 9 ∷ 110 ∷ 4 ∷ []) (bytes 18 0x0a060d_0a0308_0a010c_060600_0b0b01_09030f) (bytes 2 0x07_05))
     -- F16, n = 3: a whole solve, stopped at 2
     ∷ row (solve (order 16 3 3) (draws 27 231) (bytes 6 0xb5_d5_c4_4d_49_b4) (bytes 36 0x0c0e02_010b0a_050204_0f020a_080b01_0c0901_0a0209_0a0a05_000e0f_0b0801_08010b_060703))
     (left (2 ∷ 8 ∷ 154 ∷ 2 ∷ []) (bytes 36 0x030301_070500_030f0d_0a060d_030300_0d060b_020200_050809_020d0f_0f0906_0a050c_0a0900) (bytes 3 0x00_00_00))
     -- F16, n = 4: a whole solve, solved
     ∷ row (solve (order 16 4 2) (draws 113 222) (bytes 6 0x4c_c9_d4_bd_1c_6a) (bytes 24 0x0d0a0d0a_03030508_080b0204_0b01050e_070a0c07_0008020d))
-    (left (0 ∷ 8 ∷ 222 ∷ 6 ∷ []) (bytes 24 0x00050307_0200030a_0b0b0600_07010f09_05060301_0d020109) (bytes 2 0x06_07))
+    (left (0 ∷ 9 ∷ 222 ∷ 6 ∷ []) (bytes 24 0x00050307_0200030a_0b0b0600_07010f09_05060301_0d020109) (bytes 2 0x06_07))
     -- F16, n = 4: a whole solve, stopped at 1
     ∷ row (solve (order 16 4 2) (draws 72 222) (bytes 6 0x38_3d_64_53_fa_d6) (bytes 24 0x0e050f04_0b060408_07070203_0e07040d_05030d08_08070a07))
     (left (1 ∷ 2 ∷ 72 ∷ 0 ∷ []) (bytes 24 0x01010c0c_000f010c_060d030b_0e07040d_05030d08_08070a07) (bytes 2 0x00_00))
     -- F256, n = 2: a whole solve, solved
     ∷ row (solve (order 256 2 2) (draws 103 42) (bytes 2 0x4d_d0) (bytes 12 0xd9d9_e8bf_22a1_75b4_0615_e618))
-    (left (0 ∷ 8 ∷ 42 ∷ 2 ∷ []) (bytes 12 0x8988_86c8_6287_6161_0100_1ae8) (bytes 2 0xe5_f2))
+    (left (0 ∷ 9 ∷ 42 ∷ 2 ∷ []) (bytes 12 0x8988_86c8_6287_6161_0100_1ae8) (bytes 2 0xe5_f2))
     -- F256, n = 2: a whole solve, stopped at 2
     ∷ row (solve (order 256 2 2) (draws 221 42) (bytes 2 0x11_1d) (bytes 12 0xaafd_58f6_4b58_26a5_dac7_1203))
     (left (2 ∷ 5 ∷ 34 ∷ 1 ∷ []) (bytes 12 0x0b0a_cdcf_16c9_7575_aeae_3297) (bytes 2 0x00_00))
@@ -265,5 +284,5 @@ rows =
     ∷ []
 
 pub vectors : Holds rows
-unfolding rows bytes draws inversion left leaves lent step said told solve definitions
+unfolding rows bytes draws inversion left leaves lent step lift said told solve definitions
 vectors = refl

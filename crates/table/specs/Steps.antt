@@ -1,5 +1,5 @@
--- 01, "The step list": what each step does to the table. r is the row that takes column j's pivot; in a square system it is j, and the
--- table has w = m + 1 columns. ds and nz are the parts of the two tapes that begin at the step's own first draw.
+-- 01, "The step list", with Open in two by R-7 of 02: what each step does to the table. r is the row that takes column j's pivot; in a square
+-- system it is j, and the table has w = m + 1 columns. ds and nz are the parts of the two tapes that begin at the step's own first draw.
 -- Assumes nothing.
 use Prim.Native.Nat.{ℕ, _+_, _-_, _*_}
 use mathlib.Core.Bool.{Bool, true, false}
@@ -74,7 +74,7 @@ clear f n w r j k ds t = joinRows (fieldOf f) true n w k r j (entry n w k j t) d
 unfoldable pub unknownAt : ℕ → ℕ → ℕ → ℕ → List ℕ → List ℕ → ℕ
 unknownAt f n w r ds t = opening (fieldOf f) ds (entry n w r w t)
 
--- for k < j takes x_j·T[k,j] from T[k,m+1] share by share
+-- Lift(j): for k < j takes x_j·T[k,j] from T[k,m+1] share by share
 unfoldable pub liftTurn : Ops → ℕ → ℕ → ℕ → ℕ → ℕ → List ℕ → List ℕ
 liftTurn F n w j x i t =
     put n (cell n w (i + 1) w) (joined (sub F) (entry n w (i + 1) w t) (scaled F x (entry n w (i + 1) j t))) t

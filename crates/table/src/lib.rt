@@ -289,7 +289,7 @@ pub fn clear(
     join_rows(f, true, n, rows, w, table, &copy[..n], k, r, j, mask);
 }
 
-// Open's first half: what stands in row r's last column, opened on a copy.
+// Open: what stands in row r's last column, opened on a copy.
 pub fn open(f: u64, n: usize, rows: usize, w: usize, table: &[u8], r: usize, mask: &[u8]) -> u8
     requires { ⌜ Bounded n rows w ⌝ }
     requires { ⌜ Inside rows w r w ⌝ }
@@ -317,7 +317,7 @@ fn lift_row(f: u64, n: usize, rows: usize, w: usize, table: &mut [u8], j: usize,
     join(f, true, &mut table[p..p + n], &copy[..n]);
 }
 
-// Open's second half: the rows above row r lose x times their entry of column j.
+// Lift: the rows above row r lose x times their entry of column j.
 pub fn lift(f: u64, n: usize, rows: usize, w: usize, table: &mut [u8], r: usize, j: usize, x: u8)
     requires { ⌜ Fits n rows w ⌝ }
     requires { ⌜ Inside rows w r j ⌝ }

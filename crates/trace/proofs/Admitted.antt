@@ -15,7 +15,7 @@ use Rattle.course.specs.StepList.{Sizes, fullMask, fullNonzero}
 use Rattle.course.specs.Next.{orderOf, counted}
 use Rattle.verdict.specs.Told.{passed}
 use Rattle.verdict.specs.Refusals.{no4, no5, no7, no8, no14, no15}
-use Rattle.solver.specs.Refusals.{placed, ended, entries, wholeTable, tableRows, maskAt, nonzeroAt, revealedAt, zeroPivot, no10, no11, no12, no19, sizes, gatherOrder, tapes, solveOrder, standing, placing, lending, stepOrder}
+use Rattle.solver.specs.Refusals.{placed, ended, entries, wholeTable, tableRows, maskAt, nonzeroAt, revealedAt, zeroPivot, no10, no11, no20, no12, no19, sizes, gatherOrder, tapes, solveOrder, standing, placing, lending, stepOrder}
 use Rattle.verdict.proofs.Passes.{unmet, numbers-pass, right-length, long-enough, six-passes, nine-passes, buffers-pass, _and_}
 
 pub sizes-pass : (o : Order) → Sizes o → sizes o ≡ passed
@@ -38,17 +38,17 @@ module _ (o : Order) (z : Sizes o) (t : List ℕ) (whole : length t ≡ wholeTab
       and (long-enough 7 _ b and long-enough 8 _ c and nine-passes (o .field) (take (fullNonzero o) nonzero) d))
 
 pub step-passes : (p : Progress) → Sizes (orderOf p) → (t : List ℕ) → length t ≡ wholeTable (orderOf p) → Below (fieldOf (p .field) .q) t
-    → (solution mask : ℕ) (nonzero : List ℕ) → placed (p .size) (p .place) ≡ true → counted p ≡ true → ended (p .place) ≡ false
-    → zeroPivot (orderOf p) (revealedAt (p .place)) t ≡ false
-    → solution ≡ p .size → mask ≡ maskAt (orderOf p) (p .place) → length nonzero ≡ nonzeroAt (orderOf p) (p .place)
+    → (x : List ℕ) (mask : ℕ) (nonzero : List ℕ) → placed (p .size) (p .place) ≡ true → counted p ≡ true → ended (p .place) ≡ false
+    → no20 (orderOf p) (p .place) x ≡ passed → zeroPivot (orderOf p) (revealedAt (p .place)) t ≡ false
+    → length x ≡ p .size → mask ≡ maskAt (orderOf p) (p .place) → length nonzero ≡ nonzeroAt (orderOf p) (p .place)
     → ((k : ℕ) → k < length nonzero → drawAt (fieldOf (p .field)) nonzero k ≡ 0 → ⊥)
-    → stepOrder p t solution mask nonzero ≡ passed
+    → stepOrder p t x mask nonzero ≡ passed
 unfolding stepOrder placing standing lending no4 no5 no7 no8 no14 no15 no10 no11 no12 no19
-step-passes p z t whole elements solution mask nonzero listed matched runs pivot a b c d =
+step-passes p z t whole elements x mask nonzero listed matched runs lifts pivot a b c d =
     sizes-pass (orderOf p) z
     and (right-length 4 _ whole and right-length 5 _ a and (unmet 10 _ (ap not listed) and (unmet 19 _ (ap not matched) and unmet 11 _ runs))
     and (six-passes (p .field) (tableRows (orderOf p)) t elements
     and (long-enough 7 _ (le-of-eq (sym b)) and long-enough 14 _ (le-of-eq b)
     and long-enough 8 _ (le-of-eq (sym c)) and long-enough 15 _ (le-of-eq c)
     and nine-passes (p .field) nonzero d
-    and unmet 12 _ pivot)))
+    and (lifts and unmet 12 _ pivot))))

@@ -16,12 +16,12 @@ use Rattle.course.specs.StepList.{revealedBy}
 use Rattle.course.specs.Next.{counted}
 use Rattle.walk.specs.Act.{Held, opened, written, acted}
 use Rattle.verdict.specs.Told.{Told, passed, refused, Line}
-use Rattle.solver.specs.Refusals.{placed, ended, costAt, stepOrder}
+use Rattle.solver.specs.Refusals.{placed, ended, costAt, no20, stepOrder}
 use Rattle.verdict.specs.Calls.{refuses, call}
 use Rattle.solver.specs.Calls.{stepDoes, stepCall}
 use Rattle.trace.specs.Trace.{Beside, Host, called, lends, hostAfter, orderIn, Refused, Accepted}
 use Rattle.verdict.proofs.Passes.{nine-says}
-use Rattle.solver.proofs.Ready.{Going, going, going-matched}
+use Rattle.solver.proofs.Ready.{Going, going, going-matched, going-lifts}
 
 -- a step writes the solution as 01 says
 pub acted-written : (o : Order) (s : Step) (ds nz : List ℕ) (h : Held) → acted o s ds nz h .solution ≡ written (revealedBy s) (opened o s ds h) (h .solution)
@@ -32,7 +32,7 @@ module _ (h : Host) (c : Beside) where
   -- what the call's checks say
   abbrev pub verdict : Told
   verdict =
-      stepOrder (h .progress) (h .table) (length (c .solution)) (length (c .mask)) (c .nonzero)
+      stepOrder (h .progress) (h .table) (h .solution) (length (c .mask)) (c .nonzero)
 
   refused-says : (l : Line) → verdict ≡ refused l → called h c .says ≡ refuses l
   unfolding called stepCall call
@@ -48,10 +48,10 @@ module _ (h : Host) (c : Beside) where
         after = rw (e, add-zero, append-nil (h .mask), append-nil (h .nonzero));
       }
 
-  accepted-at : (p : Place) → h .progress .place ≡ p → Going (orderIn h) p (h .table) (length (c .solution)) (length (c .mask)) (c .nonzero)
-      → counted (h .progress) ≡ true → verdict ≡ passed → (s : Step) × Accepted h c s
+  accepted-at : (p : Place) → h .progress .place ≡ p → Going (orderIn h) p (h .table) (length (h .solution)) (length (c .mask)) (c .nonzero)
+      → counted (h .progress) ≡ true → no20 (orderIn h) p (h .solution) ≡ passed → verdict ≡ passed → (s : Step) × Accepted h c s
   unfolding called stepCall call stepDoes hostAfter placed ended costAt
-  accepted-at (At s) e w k v = (
+  accepted-at (At s) e w k b v = (
     s,
     record {
       place = e;
@@ -60,18 +60,19 @@ module _ (h : Host) (c : Beside) where
       table = w .at .whole;
       elements = w .elements;
       solution = w .at .room;
+      lifts = b;
       mask = w .lent .masks;
       nonzero = w .lent .others;
       drawn = nine-says (orderIn h .field) (c .nonzero) (w .lent .nonzeros);
       says = rw (v, e);
-      after = rw (v, e, acted-written (orderIn h) s (c .mask) (c .nonzero) (lends h c));
+      after = rw (v, e, acted-written (orderIn h) s (c .mask) (c .nonzero) (lends h));
     },
   )
-  accepted-at (Stopped j) e w k v =
+  accepted-at (Stopped j) e w k b v =
       let g = w .at .going in
       let z : _≡_ {A = ℕ} 0 1 = cc in
       absurd (let n : ⊥ = omega arith in n)
-  accepted-at Done e w k v =
+  accepted-at Done e w k b v =
       let g = w .at .going in
       let z : _≡_ {A = ℕ} 0 1 = cc in
       absurd (let n : ⊥ = omega arith in n)
@@ -79,8 +80,9 @@ module _ (h : Host) (c : Beside) where
   pub accepted-call : verdict ≡ passed → (s : Step) × Accepted h c s
   accepted-call e =
       accepted-at (h .progress .place) refl
-      (going (h .progress) (h .table) (length (c .solution)) (length (c .mask)) (c .nonzero) e)
-      (going-matched (h .progress) (h .table) (length (c .solution)) (length (c .mask)) (c .nonzero) e) e
+      (going (h .progress) (h .table) (h .solution) (length (c .mask)) (c .nonzero) e)
+      (going-matched (h .progress) (h .table) (h .solution) (length (c .mask)) (c .nonzero) e)
+      (going-lifts (h .progress) (h .table) (h .solution) (length (c .mask)) (c .nonzero) e) e
 
   by-verdict : (v : Told) → verdict ≡ v → Refused h c ⊎ ((s : Step) × Accepted h c s)
   by-verdict passed e = inr (accepted-call e)

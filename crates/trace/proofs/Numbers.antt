@@ -4,12 +4,14 @@ use mathlib.Core.Bool.{Bool, true, false, not, _&&_}
 use mathlib.Core.List.{List, [], _∷_}
 use mathlib.Core.Logic.{_⊎_, ⊎-elim}
 use mathlib.Core.Path.{_≡_, refl, sym, ap, _∙_}
-use Prim.Native.Nat.{ℕ, zero, suc, _+_, _*_}
+use Prim.Native.Nat.{ℕ, zero, suc, _+_, _-_, _*_}
 use native.Mathlib.Omega.{arith}
 use lib.Dec.{ltb}
 use lib.ListN.{length, take, getD}
 use Rattle.sharing.specs.Bounds.{mostRows}
+use Rattle.course.specs.declared.Step.the-variants.{Mix, Check, Scale, Clear, Open, Lift}
 use Rattle.course.specs.declared.Place.{Place}
+use Rattle.course.specs.declared.Place.the-variants.{At, Stopped, Done}
 use Rattle.course.specs.declared.Order.{Order}
 use Rattle.course.specs.declared.Progress.{Progress}
 use Rattle.course.specs.StepList.{fullMask, fullNonzero}
@@ -18,7 +20,7 @@ use Rattle.verdict.specs.declared.Rows.{Rows}
 use Rattle.verdict.specs.declared.Rows.the-variants.{Values}
 use Rattle.verdict.specs.Told.{Told, passed, refused, Line, refuse, _or_}
 use Rattle.verdict.specs.Refusals.{differs, outside, anyPlace, tooLarge, zeroDraw, no1, no2, no3, no4, no5, no6, no7, no8, no9, no14, no15, numbers, buffers}
-use Rattle.solver.specs.Refusals.{wholeTable, tableRows, valueRows, placed, ended, entries, dealDraws, maskAt, nonzeroAt, revealedAt, zeroPivot, no10, no11, no12, no19, sizes, dealOrder, gatherOrder, tapes, solveOrder, standing, wantedOrder, placing, lending, stepOrder}
+use Rattle.solver.specs.Refusals.{wholeTable, tableRows, valueRows, placed, ended, entries, dealDraws, maskAt, nonzeroAt, revealedAt, zeroPivot, no10, no11, liftRefused, no20, no12, no19, sizes, dealOrder, gatherOrder, tapes, solveOrder, standing, wantedOrder, placing, lending, stepOrder}
 use Rattle.solver.specs.Calls.{order}
 use Rattle.plain.specs.Calls.{plainOrder}
 use Rattle.exchange.specs.Record.{rows, tableLength, recordLength, lengthAt, endAt, ends, no16, unsuited, fieldAt, stretch, framed, systemIn, holding}
@@ -36,6 +38,9 @@ record Numbered (k : ℕ) (v : Told) : Type 0 where
 numbered : (k : ℕ) (test : Bool) (d : List ℕ) → Numbered k (refuse k test d)
 numbered k true d = record { number = λ l e. cc }
 numbered k false d = record { number = λ l e. absurd (no-refusal e) }
+
+none : {k : ℕ} → Numbered k passed
+none = record { number = λ l e. absurd (no-refusal e) }
 
 one : (f : ℕ) → Numbered 1 (no1 f)
 unfolding no1
@@ -88,6 +93,17 @@ eleven p = numbered 11 (ended p) _
 twelve : (o : Order) (p : Place) (t : List ℕ) → Numbered 12 (no12 o p t)
 unfolding no12
 twelve o p t = numbered 12 (zeroPivot o (revealedAt p) t) _
+
+twenty : (o : Order) (p : Place) (x : List ℕ) → Numbered 20 (no20 o p x)
+unfolding no20 liftRefused
+twenty o (At (Mix j k)) x = none
+twenty o (At (Check j)) x = none
+twenty o (At (Scale j)) x = none
+twenty o (At (Clear j k)) x = none
+twenty o (At (Open j)) x = none
+twenty o (At (Lift j)) x = numbered 20 (tooLarge (o .field) (getD x (j - 1) 0)) _
+twenty o (Stopped j) x = none
+twenty o Done x = none
 
 fourteen : (wanted long : ℕ) → Numbered 14 (no14 wanted long)
 unfolding no14
@@ -209,7 +225,7 @@ each-at P [] e k l g = absurd (no-refusal g)
 each-at P (v ∷ vs) e zero l g = ⊎-elim (λ (h : v ≡ passed). absurd (no-refusal (sym h ∙ g))) (λ (p : P 0). p) (e .0)
 each-at P (v ∷ vs) e (suc k) l g = each-at (λ (j : ℕ). P (suc j)) vs (e .1) k l g
 
-module _ (r : Progress) (t : List ℕ) (solution mask : ℕ) (nonzero : List ℕ) where
+module _ (r : Progress) (t x : List ℕ) (mask : ℕ) (nonzero : List ℕ) where
   abbrev o : Order
   o = orderOf r
 
@@ -224,7 +240,7 @@ module _ (r : Progress) (t : List ℕ) (solution mask : ℕ) (nonzero : List ℕ
       ∷ no2 (o .shares)
       ∷ no3 (o .size)
       ∷ no4 (wholeTable o) (length t)
-      ∷ no5 (o .size) solution
+      ∷ no5 (o .size) (length x)
       ∷ no6 (o .field) (tableRows o) t
       ∷ no7 (maskAt o p) mask
       ∷ no8 (nonzeroAt o p) (length nonzero)
@@ -239,6 +255,7 @@ module _ (r : Progress) (t : List ℕ) (solution mask : ℕ) (nonzero : List ℕ
       ∷ passed
       ∷ passed
       ∷ no19 r
+      ∷ no20 o p x
       ∷ []
 
   -- what it is refused by is what the check of that number says
@@ -248,23 +265,23 @@ module _ (r : Progress) (t : List ℕ) (solution mask : ℕ) (nonzero : List ℕ
   here : {k : ℕ} {v : Told} → getD checks k passed ≡ v → Numbered k v → Gives AtNumber v
   here s n = record { only = λ l e. ap (λ (i : ℕ). getD checks i passed) (n .number l e) ∙ s ∙ e }
 
-  pub by-number : Gives AtNumber (stepOrder r t solution mask nonzero)
+  pub by-number : Gives AtNumber (stepOrder r t x mask nonzero)
   unfolding stepOrder numbers placing standing lending
   by-number =
       here refl (one (o .field)) then here refl (two (o .shares)) then here refl (three (o .size))
-      then (here refl (four (wholeTable o) (length t)) then here refl (five (o .size) solution) then (here refl (ten (o .size) p) then (here refl (nineteen r) then here refl (eleven p)))
+      then (here refl (four (wholeTable o) (length t)) then here refl (five (o .size) (length x)) then (here refl (ten (o .size) p) then (here refl (nineteen r) then here refl (eleven p)))
       then (here refl (six (o .field) (tableRows o) t)
       then (here refl (seven (maskAt o p) mask)
       then here refl (fourteen (maskAt o p) mask)
       then here refl (eight (nonzeroAt o p) (length nonzero))
       then here refl (fifteen (nonzeroAt o p) (length nonzero))
       then here refl (nine (o .field) nonzero)
-      then here refl (twelve o p t))))
+      then (here refl (twenty o p x) then here refl (twelve o p t)))))
 
   -- a number whose check passes is not given, wherever it stands in the order
-  pub not-given : (k : ℕ) → getD checks k passed ≡ passed → (l : Line) → stepOrder r t solution mask nonzero ≡ refused l → l .number ≡ k → ⊥
+  pub not-given : (k : ℕ) → getD checks k passed ≡ passed → (l : Line) → stepOrder r t x mask nonzero ≡ refused l → l .number ≡ k → ⊥
   not-given k e l g same = no-refusal (sym e ∙ ap (λ (n : ℕ). getD checks n passed) (sym same) ∙ by-number .only l g)
 
   -- and what holds of each number whose check may refuse holds of the one that is given
-  pub given : (P : ℕ → Type 0) → Each P checks → (l : Line) → stepOrder r t solution mask nonzero ≡ refused l → P (l .number)
+  pub given : (P : ℕ → Type 0) → Each P checks → (l : Line) → stepOrder r t x mask nonzero ≡ refused l → P (l .number)
   given P each l g = each-at P checks each (l .number) l (by-number .only l g)

@@ -1,32 +1,38 @@
--- Why refusal 12 is not met in a run: a place comes to be Scale(j) only by a Check(j) that opened 0, and that says of the very table that is
--- left that the pivot's value is not 0.
+-- Why refusals 12 and 20 are not met in a run. A place comes to be Scale(j) only by a Check(j) that opened 0, and that says of the very table that
+-- is left that the pivot's value is not 0. And it comes to be Lift(j) only by an Open(j) that has just written an element.
 -- Assumes nothing.
 use mathlib.Core.Bool.{Bool, true, false}
 use mathlib.Core.List.{List}
 use mathlib.Core.Path.{_≡_, refl}
-use Prim.Native.Nat.{ℕ, _+_, _<_}
+use Prim.Native.Nat.{ℕ, _+_, _-_, _<_}
 use native.Mathlib.Omega.{arith}
-use lib.Dec.{eqb, ltb}
-use lib.ListN.{length}
+use lib.Dec.{eqb, ltb, leb}
+use lib.ListN.{length, getD, set}
+use lib.Seq.{getD-set-same}
+use borrow.Author.Tests.{lt-leb}
 use Rattle.field.specs.Field.{fieldOf, pick}
+use Rattle.field.proofs.Fields.{field-of}
+use Rattle.sharing.specs.Rules.{opening}
+use Rattle.sharing.proofs.Sums.{sum-lt}
 use Rattle.flag.specs.Flag.{flagOf}
+use Rattle.table.specs.Steps.{unknownAt}
 use Rattle.table.specs.Values.{value}
 use Rattle.table.proofs.Values.{check-value}
 use Rattle.course.specs.declared.Step.{Step}
-use Rattle.course.specs.declared.Step.the-variants.{Mix, Check, Scale, Clear, Open}
+use Rattle.course.specs.declared.Step.the-variants.{Mix, Check, Scale, Clear, Open, Lift}
 use Rattle.course.specs.declared.Place.{Place}
 use Rattle.course.specs.declared.Place.the-variants.{At, Stopped}
 use Rattle.course.specs.declared.Order.{Order}
 use Rattle.course.specs.StepList.{inList, revealedBy}
 use Rattle.course.specs.Next.{firstOf, following}
 use Rattle.course.proofs.Within.{within}
-use Rattle.walk.specs.Act.{Held, opened, acted}
-use Rattle.solver.specs.Refusals.{wholeTable, revealedAt, zeroPivot}
+use Rattle.course.proofs.Along.{either}
+use Rattle.walk.specs.Act.{Held, opened, written, acted}
+use Rattle.verdict.specs.Told.{passed}
+use Rattle.verdict.specs.Refusals.{tooLarge}
+use Rattle.verdict.proofs.Passes.{unmet}
+use Rattle.solver.specs.Refusals.{wholeTable, revealedAt, zeroPivot, liftRefused, no20}
 use Rattle.trace.proofs.Own.{in-table}
-
-either : (P : Place → Type 0) (b : Bool) {x y : Place} → P x → P y → P (pick b x y)
-either P true a b = a
-either P false a b = b
 
 -- there is a pivot for Scale
 abbrev pub Firm : Order → List ℕ → Place → Type 0
@@ -54,3 +60,36 @@ module _ (o : Order) (some : 0 < o .shares) (ds nz : List ℕ) (h : Held) (whole
   firm-after (Clear j k) i =
       either (Firm o (acted o (Clear j k) ds nz h .table)) (ltb k (o .size)) refl (firm-first o (acted o (Clear j k) ds nz h .table) (j + 1))
   firm-after (Open j) i = either (Firm o (acted o (Open j) ds nz h .table)) (ltb 1 j) refl refl
+  firm-after (Lift j) i = refl
+
+-- a Lift reads an element
+abbrev pub Fair : Order → List ℕ → Place → Type 0
+Fair o x p = no20 o p x ≡ passed
+
+pub fair-first : (o : Order) (x : List ℕ) (j : ℕ) → Fair o x (firstOf (o .size) j)
+unfolding firstOf no20 liftRefused
+fair-first o x j = either (Fair o x) (ltb j (o .size)) refl refl
+
+module _ (o : Order) (ds : List ℕ) (h : Held) (places : length (h .solution) ≡ o .size) where
+  abbrev left : Step → List ℕ
+  left s = written (revealedBy s) (opened o s ds h) (h .solution)
+
+  -- what Open opens
+  element : (j : ℕ) → opened o (Open j) ds h < fieldOf (o .field) .q
+  unfolding opened revealedBy unknownAt opening
+  element j = sum-lt (fieldOf (o .field)) (field-of (o .field) .ring) _
+
+  pub fair-after : (s : Step) → inList (o .size) s ≡ true → Fair o (left s) (following (o .size) s (opened o s ds h))
+  unfolding following revealedBy no20 liftRefused tooLarge
+  fair-after (Mix j k) i = either (Fair o (left (Mix j k))) (ltb k (o .size)) refl refl
+  fair-after (Check j) i = either (Fair o (left (Check j))) (eqb (opened o (Check j) ds h) 1) refl refl
+  fair-after (Scale j) i = either (Fair o (left (Scale j))) (ltb j (o .size)) refl refl
+  fair-after (Clear j k) i = either (Fair o (left (Clear j k))) (ltb k (o .size)) refl (fair-first o (left (Clear j k)) (j + 1))
+  fair-after (Open j) i =
+      let w = within (o .size) (Open j) i in
+      let x = opened o (Open j) ds h in
+      let byte : getD (set (h .solution) (j - 1) x) (j - 1) 0 ≡ x = getD-set-same (h .solution) (j - 1) x 0 (omega (arith, places, w .0)) in
+      let small : leb (fieldOf (o .field) .q) (getD (set (h .solution) (j - 1) x) (j - 1) 0) ≡ false =
+      rw byte (lt-leb (fieldOf (o .field) .q) x (element j)) in
+      either (Fair o (left (Open j))) (ltb 1 j) (unmet 20 _ small) refl
+  fair-after (Lift j) i = refl

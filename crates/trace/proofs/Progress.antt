@@ -33,18 +33,18 @@ use Rattle.verdict.specs.Calls.{gives}
 use Rattle.solver.specs.Calls.{solveDoes, solveCall}
 use Rattle.verdict.proofs.Passes.{nine-says}
 use Rattle.solver.proofs.Ready.{Solvable, solvable}
-use Rattle.trace.specs.Trace.{Beside, Host, begin, hostAfter, drive, Refused, Accepted, countsIn, Begins, Agrees, Admitted, Fit, calls, driven, Supplies, Ended, Own}
+use Rattle.trace.specs.Trace.{Beside, Host, begin, hostAfter, drive, Refused, Accepted, countsIn, Begins, Agrees, Admitted, Fit, calls, driven, Supplies, Ended}
 use Rattle.trace.proofs.Admitted.{step-passes}
 use Rattle.trace.proofs.Call.{verdict, accepted-call, each-call}
 use Rattle.trace.proofs.Reached.{reached, order-kept}
-use Rattle.trace.proofs.Trace.{last-call, placed-at, sole-at, agrees, agrees-call}
+use Rattle.trace.proofs.Trace.{last-call, placed-at, agrees, agrees-call}
 
 module _ (o : Order) (sized : Sizes o) (t y : List ℕ) where
   abbrev first : Host
   first = begin o t y
 
   -- 5. Whatever calls came before: a call that is fit for the step at the record's place is accepted
-  module _ (admitted : Admitted o t) (cs : List Beside) where
+  module _ (admitted : Admitted o t y) (cs : List Beside) where
     abbrev d : Host
     d = drive first cs
 
@@ -52,13 +52,13 @@ module _ (o : Order) (sized : Sizes o) (t y : List ℕ) where
     unfolding ended costAt
     fit-passes c s e f =
         let g = reached o sized t y cs in
-        let a : Admitted o (d .table) = g .admitted admitted in
+        let a : Admitted o (d .table) (d .solution) = g .admitted admitted in
         let k = order-kept o sized t y cs in
         let field : d .progress .field ≡ o .field = ap (λ (r : Order). r .field) k in
         let size : d .progress .size ≡ o .size = ap (λ (r : Order). r .size) k in
-        step-passes (d .progress) (rw k sized) (d .table) (rw k (a .whole)) (rw field (a .elements)) (length (c .solution)) (length (c .mask)) (c .nonzero)
-        (rw size (placed-at o t y d g (d .progress .place) refl)) (g .matched) (rw e) (rw k (g .firm))
-        (rw size (f .solution)) (rw (k, e) (f .mask)) (rw (k, e) (f .nonzero)) (rw field (f .drawn))
+        step-passes (d .progress) (rw k sized) (d .table) (rw k (a .whole)) (rw field (a .elements)) (d .solution) (length (c .mask)) (c .nonzero)
+        (rw size (placed-at o t y d g (d .progress .place) refl)) (g .matched) (rw e) (rw k (g .fair)) (rw k (g .firm))
+        (rw size (a .places)) (rw (k, e) (f .mask)) (rw (k, e) (f .nonzero)) (rw field (f .drawn))
 
     pub accepted : (c : Beside) (s : Step) → d .progress .place ≡ At s → Fit o s c → Accepted d c s
     accepted c s e f =
@@ -68,7 +68,7 @@ module _ (o : Order) (sized : Sizes o) (t y : List ℕ) where
         rw same at (a .1)
 
   -- a host that goes on with fit calls
-  module _ (admitted : Admitted o t) (lend : Host → Beside) (supplies : Supplies o first lend) where
+  module _ (admitted : Admitted o t y) (lend : Host → Beside) (supplies : Supplies o first lend) where
     pub supplied : (k : ℕ) (s : Step) → driven lend k first .progress .place ≡ At s → Accepted (driven lend k first) (lend (driven lend k first)) s
     unfolding driven
     supplied k s e = accepted admitted (calls lend k first) (lend (drive first (calls lend k first))) s e (supplies .fit k s e)
@@ -138,16 +138,10 @@ cut-begins o ds tape e =
       at = λ i h. ap (draw (fieldOf (o .field))) (ap (λ (l : List ℕ). getD l i 0) e ∙ getD-take (length ds) tape i 0 h);
     }
 
-own-last : (h : Host) (cs : List Beside) (c : Beside) → Own h cs → c .solution ≡ drive h cs .solution → Own h (cs ++ (c ∷ []))
-unfolding Own drive
-own-last h [] c u e = (e, tt)
-own-last h (b ∷ cs) c u e = (u .0, own-last (hostAfter h b) cs c (u .1) e)
-
 -- the parts of a solve's tapes that the record's place asks for, from where the host has come to
 abbrev cut : Order → List ℕ → List ℕ → Host → Beside
 cut o ms zs h =
     record {
-      solution = h .solution;
       mask = take (maskAt o (h .progress .place)) (drop (length (h .mask)) ms);
       nonzero = take (nonzeroAt o (h .progress .place)) (drop (length (h .nonzero)) zs);
     }
@@ -178,7 +172,6 @@ module _ (o : Order) (t y ms zs : List ℕ) (passes : solveOrder o t (length y) 
           let r = room-along o (rw e at (g .along)) in
           rw e
           (record {
-            solution = g .places (checked .lent .room);
             mask = part-long (length (h .mask)) (maskCost o s) (fullMask o) ms (r .1) (checked .masks);
             nonzero = part-long (length (h .nonzero)) (nonzeroCost o s) (fullNonzero o) zs (r .2) (checked .others);
             drawn = λ i l z.
@@ -206,23 +199,17 @@ module _ (o : Order) (t y ms zs : List ℕ) (passes : solveOrder o t (length y) 
   cuts (suc k) =
       rw (last-call fresh (calls (cut o ms zs) k fresh) (cut o ms zs (driven (cut o ms zs) k fresh))) (cut-driven (driven (cut o ms zs) k fresh) (cuts k))
 
-  owns : (k : ℕ) → Own fresh (calls (cut o ms zs) k fresh)
-  unfolding calls Own
-  owns zero = tt
-  owns (suc k) = own-last fresh (calls (cut o ms zs) k fresh) _ (owns k) refl
-
   -- For every solve that is admitted: step calls that are lent the tapes part by part, each what the record's place asks for, all accepted up
   -- to the end (`supplied`), come to the solve's end. So `agrees` speaks of every solve
-  pub as-solve : (cs : List Beside) × Own fresh cs × Ended (drive fresh cs .progress .place)
+  pub as-solve : (cs : List Beside) × Ended (drive fresh cs .progress .place)
       × Agrees (drive fresh cs) (solveCall o (held t y) ms zs) (drive fresh cs .progress .place)
   unfolding driven
   as-solve =
       let k : ℕ = length (stepList (o .size)) in
       let cs : List Beside = calls (cut o ms zs) k fresh in
       let b = cuts k in
-      let a : Admitted o t = record { whole = checked .lent .whole; elements = checked .lent .elements } in (
+      let a : Admitted o t y = record { whole = checked .lent .whole; elements = checked .lent .elements; places = checked .lent .room } in (
         cs,
-        owns k,
         reaches o (checked .sizes) t y a (cut o ms zs) cut-fits,
         agrees-call o (checked .sizes) t y cs y ms zs (cut-begins o (drive fresh cs .mask) ms (b .mask)) (cut-begins o (drive fresh cs .nonzero) zs (b .nonzero)) passes,
       )
@@ -264,8 +251,8 @@ module _ (o : Order) (sized : Sizes o) (t y : List ℕ) (cs : List Beside) (whol
   same-draws = record { at = λ i h. refl }
 
   -- what the solve on the host's draws comes to
-  agreed : (x : List ℕ) → Agrees end (solveDoes (solved o (end .mask) tape (held t x))) (end .progress .place)
-  agreed x = agrees o sized t y cs x (end .mask) tape same-draws tape-begins
+  agreed : (x : List ℕ) → length x ≡ o .size → Agrees end (solveDoes (solved o (end .mask) tape (held t x))) (end .progress .place)
+  agreed x l = agrees o sized t y cs x (end .mask) tape same-draws tape-begins l
 
   means-stopped : (x : List ℕ) (a : Ending) (j : ℕ) → gives a ≡ gives (E.Stopped j (countsIn end)) → (v : List ℕ) → Means o t a v → IsStopped o t j
   means-stopped x a j e v m = let same : a ≡ E.Stopped j (countsIn end) = cc in rw same at m
@@ -274,14 +261,16 @@ module _ (o : Order) (sized : Sizes o) (t y : List ℕ) (cs : List Beside) (whol
   pub stopped-means : (j : ℕ) → end .progress .place ≡ Stopped j → IsStopped o t j
   stopped-means j e =
       let x : List ℕ = replicate (o .size) 0 in
-      means-stopped x (solved o (end .mask) tape (held t x) .answer) j ((rw e at (agreed x)) .1) _
-      (meant o (end .mask) tape t x (lent x (length-replicate (o .size) 0)))
+      let l = length-replicate {A = ℕ} (o .size) 0 in
+      means-stopped x (solved o (end .mask) tape (held t x) .answer) j ((rw e at (agreed x l)) .1) _ (meant o (end .mask) tape t x (lent x l))
 
   means-solved : (a : Ending) → gives a ≡ gives (E.Solved (countsIn end)) → (v : List ℕ) → Means o t a v → IsSolved o t v
   means-solved a e v m = let same : a ≡ E.Solved (countsIn end) = cc in rw same at m
 
-  -- and at done, where the calls all lent the host's own solution, that solution is the one
-  pub done-means : length y ≡ o .size → Own (begin o t y) cs → end .progress .place ≡ Done → IsSolved o t (end .solution)
-  done-means l u e =
-      rw (sole-at o t y end (reached o sized t y cs) y (end .mask) tape same-draws tape-begins u refl e) at
-      (means-solved (solved o (end .mask) tape (held t y) .answer) ((rw e at (agreed y)) .1) _ (meant o (end .mask) tape t y (lent y l)))
+  -- and at done the host's solution is the one
+  pub done-means : end .progress .place ≡ Done → IsSolved o t (end .solution)
+  done-means e =
+      let x : List ℕ = replicate (o .size) 0 in
+      let l = length-replicate {A = ℕ} (o .size) 0 in
+      let a = rw e at (agreed x l) in
+      rw (a .1) at (means-solved (solved o (end .mask) tape (held t x) .answer) (a .2) _ (meant o (end .mask) tape t x (lent x l)))

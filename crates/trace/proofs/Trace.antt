@@ -4,7 +4,7 @@
 use mathlib.Core.Bool.{true, not, false≢true}
 use mathlib.Core.List.{List, [], _∷_, _++_}
 use mathlib.Core.Logic.{_⊎_, inl, inr}
-use mathlib.Core.Path.{_≡_, refl, ap, _∙_}
+use mathlib.Core.Path.{_≡_, refl, sym, ap, _∙_, subst}
 use Prim.Native.Nat.{ℕ}
 use lib.ListN.{length, getD}
 use borrow.Author.Tests.{le-ltb}
@@ -22,28 +22,30 @@ use Rattle.verdict.specs.Refusals.{outside}
 use Rattle.solver.specs.Refusals.{placed, no10, no12, no19, solveOrder}
 use Rattle.verdict.specs.Calls.{call}
 use Rattle.solver.specs.Calls.{solveDoes, solveCall}
+use Rattle.solver.proofs.Ready.{solvable}
 use Rattle.trace.specs.Trace.{Beside, Host, begin, hostAfter, drive, orderIn, Refused, Accepted, countsIn, Counted, Recorded, Begins, Agrees, Only, possible, Never}
 use Rattle.verdict.proofs.Passes.{unmet, one-passes, two-passes, three-passes}
 use Rattle.trace.specs.Numbers.{oneOf, Among}
 use Rattle.trace.proofs.Numbers.{checks, Each, _also_, not-given, given}
 use Rattle.trace.proofs.Call.{each-call, refusal}
 use Rattle.walk.proofs.Walked.{walk-append, walk-stopped}
+use Rattle.trace.proofs.Own.{knownFrom, SameFrom, all-known}
 use Rattle.trace.proofs.Reached.{tallyOf, Reached, reached, order-kept}
 
 -- the checks of a call, each at its number
 abbrev pub checksOf : Host → Beside → List Told
-checksOf h c = checks (h .progress) (h .table) (length (c .solution)) (length (c .mask)) (c .nonzero)
+checksOf h c = checks (h .progress) (h .table) (h .solution) (length (c .mask)) (c .nonzero)
 
 -- a number whose check passes is not given
 pub never : (h : Host) (c : Beside) (k : ℕ) → getD (checksOf h c) k passed ≡ passed → Never k h c
 never h c k e l g =
-    not-given (h .progress) (h .table) (length (c .solution)) (length (c .mask)) (c .nonzero) k e l (refusal h c l g)
+    not-given (h .progress) (h .table) (h .solution) (length (c .mask)) (c .nonzero) k e l (refusal h c l g)
 
 -- what is given is one of some numbers, where the check of each other number passes
 only : (h : Host) (c : Beside) (ns : List ℕ) → Each (λ k. oneOf k ns ≡ true) (checksOf h c) → Only ns h c
 unfolding Among
 only h c ns each l g =
-    given (h .progress) (h .table) (length (c .solution)) (length (c .mask)) (c .nonzero) (λ k. oneOf k ns ≡ true) each l
+    given (h .progress) (h .table) (h .solution) (length (c .mask)) (c .nonzero) (λ k. oneOf k ns ≡ true) each l
     (refusal h c l g)
 
 -- a run is its calls one by one
@@ -53,7 +55,7 @@ last-call h [] c = refl
 last-call h (b ∷ cs) c = last-call (hostAfter h b) cs c
 
 -- what a host that is reached has, by its place
-module _ {P : Type 0} (o : Order) (t y : List ℕ) (h : Host) (g : Reached P o t y h) where
+module _ (o : Order) (t y : List ℕ) (h : Host) (g : Reached o t y h) where
   pub counted-at : (p : Place) → h .progress .place ≡ p → Counted o (countsIn h) p
   counted-at (At s) e =
       let f = first (o .size) s (g .along .rest) (rw e at (g .along .leads)) in
@@ -72,36 +74,31 @@ module _ {P : Type 0} (o : Order) (t y : List ℕ) (h : Host) (g : Reached P o t
       rw (le-ltb j 1 (w .0), le-ltb (o .size) j (w .1))
   placed-at Done e = refl
 
-  module _ (x ms zs : List ℕ) (dm : Begins o (h .mask) ms) (dz : Begins o (h .nonzero) zs) where
+  module _ (x ms zs : List ℕ) (lx : length x ≡ o .size) (dm : Begins o (h .mask) ms) (dz : Begins o (h .nonzero) zs) where
     abbrev goal : Course
     goal = walk o ms zs (stepList (o .size)) (running (fresh (held t x)))
 
     -- the solve goes on from where the host is
-    pub onward : (v : List ℕ) × (goal ≡ walk o ms zs (g .along .rest) (courseOf (h .progress .place) (tallyOf h v))) × (P → x ≡ y → v ≡ h .solution)
+    pub onward : (v : List ℕ) × (goal ≡ walk o ms zs (g .along .rest) (courseOf (h .progress .place) (tallyOf h v)))
+        × (length v ≡ o .size) × SameFrom (o .size) (knownFrom (o .size) (h .progress .place)) (h .solution) v
     onward =
-        let r = g .solve x ms zs dm dz in (
+        let r = g .solve x ms zs lx dm dz in (
           r .0,
           ap (λ (l : List Step). walk o ms zs l (running (fresh (held t x)))) (g .whole (g .along .rest) (g .along .leads))
               ∙ walk-append o ms zs (g .steps) (g .along .rest) (running (fresh (held t x)))
               ∙ ap (walk o ms zs (g .along .rest)) (r .1),
           r .2,
+          r .3,
         )
 
+    -- at done the host has written its whole solution; so has the solve
     pub ends-at : (p : Place) → h .progress .place ≡ p → (v : List ℕ)
-        → goal ≡ walk o ms zs (g .along .rest) (courseOf (h .progress .place) (tallyOf h v)) → Agrees h (solveDoes (solved o ms zs (held t x))) p
+        → goal ≡ walk o ms zs (g .along .rest) (courseOf (h .progress .place) (tallyOf h v)) → (p ≡ Done → v ≡ h .solution)
+        → Agrees h (solveDoes (solved o ms zs (held t x))) p
     unfolding solved conclude walk
-    ends-at (At s) e v w = tt
-    ends-at (Stopped j) e v w = rw (w, e, walk-stopped o ms zs (g .along .rest) j (tallyOf h v)) (refl, refl)
-    ends-at Done e v w = rw (w, e, none (o .size) (g .along .rest) (rw e at (g .along .leads))) (refl, refl)
-
-    left-at : (v : List ℕ) → goal ≡ walk o ms zs (g .along .rest) (courseOf (h .progress .place) (tallyOf h v)) → h .progress .place ≡ Done
-        → solved o ms zs (held t x) .left .solution ≡ v
-    unfolding solved conclude walk
-    left-at v w e = rw (w, e, none (o .size) (g .along .rest) (rw e at (g .along .leads)))
-
-    -- at done, where the calls lent the host's own solution and the solve is lent the same first one, it leaves the same solution
-    pub sole-at : P → x ≡ y → h .progress .place ≡ Done → solved o ms zs (held t x) .left .solution ≡ h .solution
-    sole-at p same e = let r = onward in left-at (r .0) (r .1) e ∙ r .2 p same
+    ends-at (At s) e v w same = tt
+    ends-at (Stopped j) e v w same = rw (w, e, walk-stopped o ms zs (g .along .rest) j (tallyOf h v)) (refl, refl)
+    ends-at Done e v w same = rw (w, e, none (o .size) (g .along .rest) (rw e at (g .along .leads))) (refl, same refl, refl)
 
 module _ (o : Order) (sized : Sizes o) (t y : List ℕ) (cs : List Beside) where
   abbrev d : Host
@@ -121,16 +118,18 @@ module _ (o : Order) (sized : Sizes o) (t y : List ℕ) (cs : List Beside) where
   recorded = let g = reached o sized t y cs in (g .recorded, g .matched)
 
   module _ (x ms zs : List ℕ) (dm : Begins o (d .mask) ms) (dz : Begins o (d .nonzero) zs) where
-    -- 3. The whole solve of the same first table, on tapes that begin with the same draws, comes to the same end
-    pub agrees : Agrees d (solveDoes (solved o ms zs (held t x))) (d .progress .place)
-    agrees =
+    -- 3. The whole solve of the same first table, lent any solution of m bytes, on tapes that begin with the same draws, comes to the same end
+    pub agrees : length x ≡ o .size → Agrees d (solveDoes (solved o ms zs (held t x))) (d .progress .place)
+    agrees lx =
         let g = reached o sized t y cs in
-        let r = onward o t y d g x ms zs dm dz in
-        ends-at o t y d g x ms zs dm dz (d .progress .place) refl (r .0) (r .1)
+        let r = onward o t y d g x ms zs lx dm dz in
+        ends-at o t y d g x ms zs lx dm dz (d .progress .place) refl (r .0) (r .1)
+        (λ e. sym (all-known (o .size) (d .solution) (r .0) (g .places e) (r .2)
+        (subst (λ (p : Place). SameFrom (o .size) (knownFrom (o .size) p) (d .solution) (r .0)) e (r .3))))
 
     pub agrees-call : solveOrder o t (length x) (length ms) zs ≡ passed → Agrees d (solveCall o (held t x) ms zs) (d .progress .place)
     unfolding solveCall call
-    agrees-call e = rw e agrees
+    agrees-call e = rw e (agrees (solvable o t (length x) (length ms) zs e .lent .room))
 
   -- 4. A refused call has one of those numbers, whatever it lends. Each number from 0 on: its check passes, or it is one of them
   pub refused-by : (c : Beside) → Only possible d c
@@ -159,9 +158,10 @@ module _ (o : Order) (sized : Sizes o) (t y : List ℕ) (cs : List Beside) where
       also inl refl
       also inl refl
       also inl (unmet 19 _ (ap not (g .matched)))
+      also inl (g .fair)
       also tt))
 
-  -- so refusals 10, 12 and 19 are not met
+  -- so refusals 10, 12, 19 and 20 are not met
   pub never-off-list : (c : Beside) → Never 10 d c
   unfolding oneOf Among
   never-off-list c l g e = let z = rw e at (refused-by c l g) in false≢true z
@@ -173,3 +173,7 @@ module _ (o : Order) (sized : Sizes o) (t y : List ℕ) (cs : List Beside) where
   pub never-zero-pivot : (c : Beside) → Never 12 d c
   unfolding oneOf Among
   never-zero-pivot c l g e = let z = rw e at (refused-by c l g) in false≢true z
+
+  pub never-large-byte : (c : Beside) → Never 20 d c
+  unfolding oneOf Among
+  never-large-byte c l g e = let z = rw e at (refused-by c l g) in false≢true z

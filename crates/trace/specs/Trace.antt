@@ -1,6 +1,7 @@
--- Demand 3's host. It has a record from Start and a table, and both are touched only by step calls: as many as it likes, each with whatever it
--- lends beside them, and refused ones among them. Its tapes need not be one piece: what counts is the draws that it lends to accepted calls.
--- Here is what it has after such calls, and what is then true of it; proofs/Trace.antt and proofs/Progress.antt prove it.
+-- Demand 3's host. It has a record from Start and a table, and both are touched only by step calls; and 02, R-7: "those step calls all lend one
+-- solution, which nothing else touches". It makes as many calls as it likes, each with whatever it lends beside these three, and refused ones
+-- among them. Its tapes need not be one piece: what counts is the draws that it lends to accepted calls. Here is what it has after such calls,
+-- and what is then true of it; proofs/Trace.antt and proofs/Progress.antt prove it.
 -- Assumes nothing.
 use mathlib.Core.Bool.{true}
 use mathlib.Core.List.{List, [], _∷_, _++_}
@@ -21,20 +22,18 @@ use Rattle.course.specs.Next.{orderOf, nextOf, startOf, counted}
 use Rattle.walk.specs.declared.Ending.{Ending}
 use Rattle.walk.specs.declared.Ending.the-variants as E
 use Rattle.walk.specs.Act.{Held, held, opened, written, acted}
-use Rattle.verdict.specs.Told.{Line}
-use Rattle.solver.specs.Refusals.{wholeTable}
+use Rattle.verdict.specs.Told.{Line, passed}
+use Rattle.solver.specs.Refusals.{wholeTable, no20}
 use Rattle.verdict.specs.Calls.{Says, refuses, gives, Outcome}
 use Rattle.solver.specs.Calls.{Stride, tells, Lent, lent, stepCall}
 use Rattle.trace.specs.Numbers.{Among}
 
--- what a call is lent beside the record and the table
+-- what a call is lent beside the record, the table and the solution
 pub record Beside : Type 0 where
-  pub solution : List ℕ
   pub mask : List ℕ
   pub nonzero : List ℕ
 
--- what a host has: the record, the table, and the solution as the last accepted call left it; how many calls were accepted; and the draws
--- lent to those calls, in order
+-- what a host has: the record, the table and the solution; how many calls were accepted; and the draws lent to those calls, in order
 pub record Host : Type 0 where
   pub progress : Progress
   pub table : List ℕ
@@ -47,12 +46,12 @@ pub record Host : Type 0 where
 abbrev pub begin : Order → List ℕ → List ℕ → Host
 begin o t x = record { progress = startOf o; table = t; solution = x; steps = 0; mask = []; nonzero = [] }
 
-abbrev pub lends : Host → Beside → Held
-lends h c = held (h .table) (c .solution)
+abbrev pub lends : Host → Held
+lends h = held (h .table) (h .solution)
 
 -- one step call
 unfoldable pub called : Host → Beside → Outcome Stride Lent
-called h c = stepCall (h .progress) (lends h c) (c .mask) (c .nonzero)
+called h c = stepCall (h .progress) (lends h) (c .mask) (c .nonzero)
 
 -- a refused call is not counted, and uses up none of its draws
 abbrev pub accepts : Says Stride → ℕ
@@ -63,16 +62,12 @@ abbrev pub uses : Says Stride → List ℕ → List ℕ
 uses (refuses l) ds = []
 uses (gives a) ds = ds
 
-abbrev pub keeps : Says Stride → List ℕ → List ℕ → List ℕ
-keeps (refuses l) own left = own
-keeps (gives a) own left = left
-
 abbrev pub noted : Host → Beside → Outcome Stride Lent → Host
 noted h c r =
     record {
       progress = r .left .progress;
       table = r .left .held .table;
-      solution = keeps (r .says) (h .solution) (r .left .held .solution);
+      solution = r .left .held .solution;
       steps = h .steps + accepts (r .says);
       mask = h .mask ++ uses (r .says) (c .mask);
       nonzero = h .nonzero ++ uses (r .says) (c .nonzero);
@@ -91,15 +86,15 @@ orderIn h = orderOf (h .progress)
 
 -- what a call at step s opens
 abbrev pub openedIn : Host → Beside → Step → ℕ
-openedIn h c s = opened (orderIn h) s (c .mask) (lends h c)
+openedIn h c s = opened (orderIn h) s (c .mask) (lends h)
 
 -- step s done on the lent parts, by the rules of the paper: the table share for share, and of the solution no more than `written` says
 abbrev pub stepped : Host → Beside → Step → Host
 stepped h c s =
     record {
       progress = nextOf (h .progress) (openedIn h c s);
-      table = acted (orderIn h) s (c .mask) (c .nonzero) (lends h c) .table;
-      solution = written (revealedBy s) (openedIn h c s) (c .solution);
+      table = acted (orderIn h) s (c .mask) (c .nonzero) (lends h) .table;
+      solution = written (revealedBy s) (openedIn h c s) (h .solution);
       steps = h .steps + 1;
       mask = h .mask ++ c .mask;
       nonzero = h .nonzero ++ c .nonzero;
@@ -110,11 +105,11 @@ abbrev pub NoneZero : Order → List ℕ → Type 0
 NoneZero o ds = (k : ℕ) → k < length ds → drawAt (fieldOf (o .field)) ds k ≡ 0 → ⊥
 
 -- 1. A call that was refused has changed nothing. One that was accepted did the step of the record's place, whose draws its counters had, on a
--- whole table of which every byte is an element, on exactly the step's draws, and on nonzero draws that are not 0
+-- whole table of which every byte is an element, on exactly the step's draws, and on nonzero draws that are not 0; and a Lift on an element
 pub record Refused (h : Host) (c : Beside) : Type 0 where
   pub line : Line
   pub says : called h c .says ≡ refuses line
-  pub left : called h c .left ≡ lent (h .progress) (lends h c)
+  pub left : called h c .left ≡ lent (h .progress) (lends h)
   pub after : hostAfter h c ≡ h
 
 pub record Accepted (h : Host) (c : Beside) (s : Step) : Type 0 where
@@ -123,7 +118,8 @@ pub record Accepted (h : Host) (c : Beside) (s : Step) : Type 0 where
   pub matched : counted (h .progress) ≡ true
   pub table : length (h .table) ≡ wholeTable (orderIn h)
   pub elements : Below (fieldOf (orderIn h .field) .q) (h .table)
-  pub solution : length (c .solution) ≡ orderIn h .size
+  pub solution : length (h .solution) ≡ orderIn h .size
+  pub lifts : no20 (orderIn h) (At s) (h .solution) ≡ passed
   pub mask : length (c .mask) ≡ maskCost (orderIn h) s
   pub nonzero : length (c .nonzero) ≡ nonzeroCost (orderIn h) s
   pub drawn : NoneZero (orderIn h) (c .nonzero)
@@ -150,11 +146,12 @@ pub record Recorded (h : Host) : Type 0 where
 abbrev pub Begins : Order → List ℕ → List ℕ → Type 0
 Begins o ds tape = SameDraws (fieldOf (o .field)) (length ds) ds tape
 
--- 3. At an end, a whole solve leaves the host's table, and reports its counts and its stop
+-- 3. At an end, a whole solve leaves the host's table, and reports its counts and its stop; at done it leaves the host's solution too, byte for
+-- byte
 abbrev pub Agrees : Host → Outcome Ending Held → Place → Type 0
 Agrees h r (At s) = Unit
 Agrees h r (Stopped j) = (r .left .table ≡ h .table) × (r .says ≡ gives (E.Stopped j (countsIn h)))
-Agrees h r Done = (r .left .table ≡ h .table) × (r .says ≡ gives (E.Solved (countsIn h)))
+Agrees h r Done = (r .left .table ≡ h .table) × (r .left .solution ≡ h .solution) × (r .says ≡ gives (E.Solved (countsIn h)))
 
 -- 4. A call that is refused has one of these numbers; or it has not the number k
 abbrev pub Only : List ℕ → Host → Beside → Type 0
@@ -167,14 +164,14 @@ possible = 4 ∷ 5 ∷ 11 ∷ 6 ∷ 7 ∷ 14 ∷ 8 ∷ 15 ∷ 9 ∷ []
 abbrev pub Never : ℕ → Host → Beside → Type 0
 Never k h c = (l : Line) → called h c .says ≡ refuses l → l .number ≡ k → ⊥
 
--- 5. What a first table, and what a call at step s, must be to be admitted: the table is whole and of elements; the solution has m bytes; the
--- tapes' parts are exactly the step's draws, and no nonzero one is 0
-pub record Admitted (o : Order) (t : List ℕ) : Type 0 where
+-- 5. What a first table and solution, and what a call at step s, must be to be admitted: the table is whole and of elements; the solution has m
+-- bytes, any; the tapes' parts are exactly the step's draws, and no nonzero one is 0
+pub record Admitted (o : Order) (t x : List ℕ) : Type 0 where
   pub whole : length t ≡ wholeTable o
   pub elements : Below (fieldOf (o .field) .q) t
+  pub places : length x ≡ o .size
 
 pub record Fit (o : Order) (s : Step) (c : Beside) : Type 0 where
-  pub solution : length (c .solution) ≡ o .size
   pub mask : length (c .mask) ≡ maskCost o s
   pub nonzero : length (c .nonzero) ≡ nonzeroCost o s
   pub drawn : NoneZero o (c .nonzero)
@@ -195,8 +192,3 @@ abbrev pub Ended : Place → Type 0
 Ended (At s) = ⊥
 Ended (Stopped j) = Unit
 Ended Done = Unit
-
--- 6. The calls all lend the host's own solution, which nothing else touches
-unfoldable pub Own : Host → List Beside → Type 0
-Own h [] = Unit
-Own h (c ∷ cs) = (c .solution ≡ h .solution) × Own (hostAfter h c) cs

@@ -1,6 +1,6 @@
--- 01's table of refusals, with R-2's rows and details and the rows of R-3 and R-5: the number and detail of each, and a definition for each of 1
--- to 9, 14 and 15, which need no more than the numbers and bytes that they are about. 10 to 12 and 19 are about a progress record, 16 to 18
--- about an exchange record, and stand with the calls.
+-- 01's table of refusals, with R-2's rows and details and the rows of R-3, R-5 and R-7: the number and detail of each, and a definition for each
+-- of 1 to 9, 14 and 15, which need no more than the numbers and bytes that they are about. 10 to 12, 19 and 20 are about a progress record, 16
+-- to 18 about an exchange record, and stand with the calls.
 -- Assumes nothing.
 use mathlib.Core.Bool.{Bool, true, false, not, _||_, _&&_}
 use mathlib.Core.List.{List, [], _∷_}
@@ -36,6 +36,7 @@ paper (R.BadTag at) = line 16 (at ∷ [])
 paper (R.CutField at) = line 17 (at ∷ [])
 paper (R.PastEnd at) = line 18 (at ∷ [])
 paper R.Counters = line 19 (0 ∷ [])
+paper (R.LiftByte j) = line 20 (j ∷ [])
 
 -- the same as numbers: what a detail has not is 0
 abbrev pub reportOf : Line → Report

@@ -1,5 +1,5 @@
-// What the checks of the calls have in common: 01's table of refusals, with R-2's details and the numbers of R-3 and R-5, the checks 1 to 9, 14 and 15, and how
-// checks follow each other. Stands on field. Nothing lent is written, and bytes are looked at only where the length is right.
+// What the checks of the calls have in common: 01's table of refusals, with R-2's details and the numbers of R-3, R-5 and R-7, the checks 1 to
+// 9, 14 and 15, and how checks follow each other. Stands on field. Nothing lent is written, and bytes are looked at only where the length is right.
 ghost use mathlib.Core.Path.{_≡_};
 ghost use mathlib.Core.List.{[], _∷_};
 ghost use Prim.Native.Nat.{_+_, _/_, _%_, _<_, _≤_};
@@ -55,6 +55,8 @@ pub enum Refusal {
     PastEnd(usize),
     // 19
     Counters,
+    // 20: the j of the Lift
+    LiftByte(u64),
 }
 
 // A refusal as numbers: 01's number, and its detail; what the detail has not is 0.
@@ -111,6 +113,7 @@ impl Refusal {
             Refusal::CutField(at) => with_detail(17, at as u64),
             Refusal::PastEnd(at) => with_detail(18, at as u64),
             Refusal::Counters => with_detail(19, 0),
+            Refusal::LiftByte(j) => with_detail(20, j),
         }
     }
 }
@@ -183,7 +186,7 @@ pub fn no5(wanted: usize, length: usize) -> Verdict
     refuse_if(length != wanted, Refusal::Target(wanted))
 }
 
-fn is_too_large(f: u64, x: u8) -> bool
+pub fn is_too_large(f: u64, x: u8) -> bool
     ensures { λ r. ⌜ r ≡ tooLarge f x ⌝ }
 {
     f == 16 && 16 <= x

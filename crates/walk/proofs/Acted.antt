@@ -6,14 +6,14 @@ use mathlib.Core.List.{List}
 use mathlib.Core.Path.{_≡_, refl, _∙_}
 use Prim.Native.Nat.{ℕ, _+_, _-_, _<_, _≤_}
 use native.Mathlib.Omega.{arith}
-use lib.ListN.{length, length-set}
+use lib.ListN.{length, getD, length-set}
 use Rattle.field.specs.Field.{fieldOf}
 use Rattle.sharing.specs.Lists.{Below}
 use Rattle.table.specs.Layout.{Bounded, Inside, tableBytes}
 use Rattle.table.proofs.Lengths.{mix-length, scale-length, clear-length, lift-length}
 use Rattle.table.proofs.Elements.{mix-below, scale-below, clear-below, lift-below}
 use Rattle.course.specs.declared.Step.{Step}
-use Rattle.course.specs.declared.Step.the-variants.{Mix, Check, Scale, Clear, Open}
+use Rattle.course.specs.declared.Step.the-variants.{Mix, Check, Scale, Clear, Open, Lift}
 use Rattle.course.specs.declared.Order.{Order}
 use Rattle.course.specs.StepList.{Sizes, inList, Revealed, None, Flag, Pivot, Unknown, revealedBy}
 use Rattle.course.proofs.Within.{Within, within}
@@ -54,7 +54,9 @@ module _ (o : Order) where
   acted-sized (Check j) u ds nz h l = l
   acted-sized (Scale j) u ds nz h l = scale-length (o .shares) m (m + 1) (h .table) l (o .field) (pivot (u .0) (u .1)) nz ds
   acted-sized (Clear j k) u ds nz h l = clear-length (o .shares) m (m + 1) (h .table) l (o .field) (under (u .0) (u .1) (u .2)) j ds
-  acted-sized (Open j) u ds nz h l = lift-length (o .shares) m (m + 1) (h .table) l (o .field) (pivot (u .0) (u .1)) (opened o (Open j) ds h)
+  acted-sized (Open j) u ds nz h l = l
+  acted-sized (Lift j) u ds nz h l =
+      lift-length (o .shares) m (m + 1) (h .table) l (o .field) (pivot (omega arith) (u .1)) (getD (h .solution) (j - 1) 0)
 
   written-length : (w : Revealed) (x : ℕ) (v : List ℕ) → length (written w x v) ≡ length v
   written-length None x v = refl
@@ -77,4 +79,5 @@ module _ (o : Order) where
   acted-below (Check j) ds nz h b = b
   acted-below (Scale j) ds nz h b = scale-below (o .field) (o .shares) (m + 1) j j nz ds (h .table) b
   acted-below (Clear j k) ds nz h b = clear-below (o .field) (o .shares) (m + 1) j j k ds (h .table) b
-  acted-below (Open j) ds nz h b = lift-below (o .field) (o .shares) (m + 1) j j (opened o (Open j) ds h) (h .table) b
+  acted-below (Open j) ds nz h b = b
+  acted-below (Lift j) ds nz h b = lift-below (o .field) (o .shares) (m + 1) j j (getD (h .solution) (j - 1) 0) (h .table) b

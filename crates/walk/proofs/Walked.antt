@@ -7,7 +7,7 @@ use Prim.Native.Nat.{ℕ}
 use lib.Dec.{eqb}
 use Rattle.field.specs.Field.{pick}
 use Rattle.course.specs.declared.Step.{Step}
-use Rattle.course.specs.declared.Step.the-variants.{Mix, Check, Scale, Clear, Open}
+use Rattle.course.specs.declared.Step.the-variants.{Mix, Check, Scale, Clear, Open, Lift}
 use Rattle.course.specs.declared.Place.{Place}
 use Rattle.course.specs.declared.Place.the-variants.{At, Stopped, Done}
 use Rattle.course.specs.declared.Order.{Order}
@@ -39,6 +39,7 @@ settle-after m (Check j) x t = course-check (eqb x 1) j t
 settle-after m (Scale j) x t = calm-course (following m (Scale j) x) t (after-calm m (Scale j))
 settle-after m (Clear j k) x t = calm-course (following m (Clear j k) x) t (after-calm m (Clear j k))
 settle-after m (Open j) x t = calm-course (following m (Open j) x) t (after-calm m (Open j))
+settle-after m (Lift j) x t = refl
 
 module _ (o : Order) (ms zs : List ℕ) where
   pub then-settled : (s : Step) (t : Tally) → then o ms zs s (running t) ≡ settle (revealedBy s) (openedAt o ms zs s t) (spent o ms zs s t)

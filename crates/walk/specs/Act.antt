@@ -3,10 +3,10 @@
 -- Assumes nothing.
 use mathlib.Core.List.{List}
 use Prim.Native.Nat.{ℕ, _+_, _-_}
-use lib.ListN.{set}
+use lib.ListN.{getD, set}
 use Rattle.table.specs.Steps.{mix, check, scale, clear, unknownAt, lift}
 use Rattle.course.specs.declared.Step.{Step}
-use Rattle.course.specs.declared.Step.the-variants.{Mix, Check, Scale, Clear, Open}
+use Rattle.course.specs.declared.Step.the-variants.{Mix, Check, Scale, Clear, Open, Lift}
 use Rattle.course.specs.declared.Order.{Order}
 use Rattle.course.specs.StepList.{Revealed, None, Flag, Pivot, Unknown, revealedBy}
 
@@ -36,13 +36,15 @@ written (Flag j) x v = v
 written (Pivot j) x v = v
 written (Unknown j) x v = set v (j - 1) x
 
--- the table as a step leaves it; Open carries x_j into the rows above
+-- the table as a step leaves it. 02, R-7: "Open(j) now only opens and writes x_j", and Lift(j) "reads x_j from the lent solution" and "carries it
+-- into the rows above"
 abbrev pub worked : Order → Step → List ℕ → List ℕ → Held → List ℕ
 worked o (Mix j k) ds nz h = mix (o .field) (o .shares) (o .size + 1) j j k ds (h .table)
 worked o (Check j) ds nz h = h .table
 worked o (Scale j) ds nz h = scale (o .field) (o .shares) (o .size + 1) j j nz ds (h .table)
 worked o (Clear j k) ds nz h = clear (o .field) (o .shares) (o .size + 1) j j k ds (h .table)
-worked o (Open j) ds nz h = lift (o .field) (o .shares) (o .size + 1) j j (opened o (Open j) ds h) (h .table)
+worked o (Open j) ds nz h = h .table
+worked o (Lift j) ds nz h = lift (o .field) (o .shares) (o .size + 1) j j (getD (h .solution) (j - 1) 0) (h .table)
 
 -- what a step leaves
 unfoldable pub acted : Order → Step → List ℕ → List ℕ → Held → Held

@@ -71,8 +71,12 @@ pub fn act(
             let c = j as usize;
             let x = table::open(f, n, m, w, table, c, mask);
             solution[c - 1] = x;
-            table::lift(f, n, m, w, table, c, c, x);
             x
+        }
+        Step::Lift(j) => {
+            let c = j as usize;
+            table::lift(f, n, m, w, table, c, c, solution[c - 1]);
+            0
         }
     }
 }

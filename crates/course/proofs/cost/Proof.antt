@@ -75,6 +75,9 @@ enum-told-2 c = search needs
 open-cost-requires : tie.Need-open-cost-requires
 open-cost-requires c κs = search needs
 
+enum-told-3 : tie.Need-enum-told-3
+enum-told-3 c = search needs
+
 returns : tie.Need-returns
 unfolding costOf
 returns c = rw (c .before .before .s .given .1, c .mix-cost .ensures .0)
@@ -95,5 +98,9 @@ returns-5 : tie.Need-returns-5
 unfolding costOf
 returns-5 c = rw (c .before .enum-told2 .given .1, c .open-cost .ensures .0)
 
+returns-6 : tie.Need-returns-6
+unfolding costOf
+returns-6 c = rw (c .enum-told3 .given .1)
+
 pub cost-spec : {M : Type 1} → statement M
-cost-spec = tie.close (tie.spec add-w enum-known-s add-mix-cost sub-mix-cost mix-cost-requires enum-told check-cost-requires enum-known-s-2 sub-others add-scale-cost sub-scale-cost scale-cost-requires enum-known-s-3 add-clear-cost sub-clear-cost clear-cost-requires enum-told-2 open-cost-requires returns returns-2 returns-3 returns-4 returns-5)
+cost-spec = tie.close (tie.spec add-w enum-known-s add-mix-cost sub-mix-cost mix-cost-requires enum-told check-cost-requires enum-known-s-2 sub-others add-scale-cost sub-scale-cost scale-cost-requires enum-known-s-3 add-clear-cost sub-clear-cost clear-cost-requires enum-told-2 open-cost-requires enum-told-3 returns returns-2 returns-3 returns-4 returns-5 returns-6)

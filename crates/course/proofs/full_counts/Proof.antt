@@ -20,7 +20,10 @@ add-t4 : tie.Need-add-t4
 add-t4 c = search needs
 
 mul-t5 : tie.Need-mul-t5
-mul-t5 c = let m = c .args .o .size in omega (arith, mul-le-mul {n₁ = m} {m₁ = m + 2} {n₂ = mostRows} {m₂ = mostRows + 2} (c .pre .most) (omega (arith, c .pre .most)))
+mul-t5 c = let m = c .args .o .size in omega (arith, mul-le-mul {n₁ = m} {m₁ = m + 3} {n₂ = mostRows} {m₂ = mostRows + 3} (c .pre .most) (omega (arith, c .pre .most)))
+
+sub-t6 : tie.Need-sub-t6
+sub-t6 c = let m = c .args .o .size in omega (arith, mul-le-mul {n₁ = 1} {m₁ = 4} {n₂ = m} {m₂ = m + 3} (c .pre .some) (omega (arith, c .pre .some)))
 
 add-mask-of : tie.Need-add-mask-of
 add-mask-of c = search needs
@@ -33,11 +36,11 @@ mask-of-requires c κs =
     let z = c .before .pre in
     (z .two, z .four, omega (arith, z .most), rw (c .part-of .ensures) (kept (c .before .args .o) z Done tt))
 
-sub-t10 : tie.Need-sub-t10
-sub-t10 c = search needs
+sub-t11 : tie.Need-sub-t11
+sub-t11 c = search needs
 
-mul-t11 : tie.Need-mul-t11
-mul-t11 c =
+mul-t12 : tie.Need-mul-t12
+mul-t12 c =
     let s = c .before .before in
     omega (arith, mul-le-mul {n₁ = s .args .o .size} {m₁ = s .args .o .shares - 1} {n₂ = mostRows} {m₂ = 3} (s .pre .most) (omega (arith, s .pre .four)))
 
@@ -52,4 +55,4 @@ returns c =
 pub full-counts-spec : {M : Type 1} → statement M
 full-counts-spec =
     tie.close
-    (tie.spec add-t4 mul-t5 add-mask-of part-of-requires mask-of-requires sub-t10 mul-t11 returns)
+    (tie.spec add-t4 mul-t5 sub-t6 add-mask-of part-of-requires mask-of-requires sub-t11 mul-t12 returns)

@@ -25,6 +25,9 @@ enum-known-s-4 c = search needs
 enum-known-s-5 : tie.Need-enum-known-s-5
 enum-known-s-5 c = search needs
 
+enum-known-s-6 : tie.Need-enum-known-s-6
+enum-known-s-6 c = search needs
+
 and-assoc : (a b d : Bool) → a && b && d ≡ a && (b && d)
 and-assoc true b d = refl
 and-assoc false b d = refl
@@ -78,5 +81,13 @@ returns-10 : tie.Need-returns-10
 unfolding inList
 returns-10 c = rw (c .before .before .s5 .given .1, lt-leb 1 _ (c .if7 .left))
 
+returns-11 : tie.Need-returns-11
+unfolding inList
+returns-11 c = rw (c .before .before .s6 .given .1, le-leb 2 _ (c .if8 .taken))
+
+returns-12 : tie.Need-returns-12
+unfolding inList
+returns-12 c = rw (c .before .before .s6 .given .1, lt-leb 2 _ (c .if8 .left))
+
 pub in-list-spec : {M : Type 1} → statement M
-in-list-spec = tie.close (tie.spec enum-known-s enum-known-s-2 enum-known-s-3 enum-known-s-4 enum-known-s-5 returns returns-2 returns-3 returns-4 returns-5 returns-6 returns-7 returns-8 returns-9 returns-10)
+in-list-spec = tie.close (tie.spec enum-known-s enum-known-s-2 enum-known-s-3 enum-known-s-4 enum-known-s-5 enum-known-s-6 returns returns-2 returns-3 returns-4 returns-5 returns-6 returns-7 returns-8 returns-9 returns-10 returns-11 returns-12)

@@ -1,11 +1,11 @@
--- `course::part_at` meets its contract: the parts of the five steps, all of whose numbers are those of a row at most.
+-- `course::part_at` meets its contract: the parts of the six steps, all of whose numbers are those of a row at most.
 -- Assumes nothing.
 use mathlib.Core.Path.{_≡_}
 use Prim.Native.Nat.{ℕ, _+_, _-_, _*_, _≤_}
 use native.Mathlib.Omega.{arith}
 use native.Mathlib.Nat.{mul-le-mul}
 use Rattle.sharing.specs.Bounds.{mostWidth}
-use Rattle.course.specs.declared.Step.the-variants.{Mix, Check, Scale, Clear, Open}
+use Rattle.course.specs.declared.Step.the-variants.{Mix, Check, Scale, Clear, Open, Lift}
 use Rattle.course.specs.Code.Closed.{partAt}
 use Rattle.course.proofs.Within.{Within, within}
 use borrow.Author.Needs.{needs}
@@ -28,6 +28,9 @@ cleared c = within _ (Clear (c .before .s4 .given .0 .0) (c .before .s4 .given .
 opened : (c : tie.After-known-told5) → Within (c .before .before .before .args .m) (Open (c .before .s5 .given .0 .0))
 opened c = within _ (Open (c .before .s5 .given .0 .0)) (rw (c .before .s5 .given .1) at (c .before .before .before .pre .1))
 
+lifted : (c : tie.After-known-told6) → Within (c .before .before .before .args .m) (Lift (c .before .s6 .given .0 .0))
+lifted c = within _ (Lift (c .before .s6 .given .0 .0)) (rw (c .before .s6 .given .1) at (c .before .before .before .pre .1))
+
 -- a product of two such numbers
 small : (a b : ℕ) → a ≤ mostWidth → b ≤ mostWidth + 1 → a * b ≤ mostWidth * (mostWidth + 1)
 small a b h g = mul-le-mul {n₁ = a} {m₁ = b} {n₂ = mostWidth} {m₂ = mostWidth + 1} h g
@@ -47,8 +50,8 @@ sub-done c = omega (arith, mixed c, c .before .before .before .pre .0)
 sub-done-2 : tie.Need-sub-done-2
 sub-done-2 c = omega (arith, mixed c, c .before .before .before .pre .0)
 
-mul-t17 : tie.Need-mul-t17
-mul-t17 c =
+mul-t18 : tie.Need-mul-t18
+mul-t18 c =
     let u = mixed c in
     let m = c .before .before .before .args .m in
     let j = c .before .s .given .0 .0 in
@@ -67,8 +70,8 @@ sub-y-2 c = omega (arith, checked c, c .before .before .before .pre .0)
 sub-done-3 : tie.Need-sub-done-3
 sub-done-3 c = omega (arith, checked c, c .before .before .before .pre .0)
 
-mul-t21 : tie.Need-mul-t21
-mul-t21 c =
+mul-t22 : tie.Need-mul-t22
+mul-t22 c =
     let u = checked c in
     let m = c .before .before .before .args .m in
     let j = c .before .s2 .given .0 .0 in
@@ -83,11 +86,11 @@ add-done c = search needs
 sub-done-4 : tie.Need-sub-done-4
 sub-done-4 c = omega (arith, scaled c, c .before .before .before .pre .0)
 
-add-t22 : tie.Need-add-t22
-add-t22 c = search needs
+add-t23 : tie.Need-add-t23
+add-t23 c = search needs
 
-mul-t23 : tie.Need-mul-t23
-mul-t23 c =
+mul-t24 : tie.Need-mul-t24
+mul-t24 c =
     let u = scaled c in
     let m = c .before .before .before .args .m in
     let j = c .before .s3 .given .0 .0 in
@@ -102,17 +105,17 @@ add-y-3 c = search needs
 sub-y-3 : tie.Need-sub-y-3
 sub-y-3 c = omega (arith, cleared c, c .before .before .before .pre .0)
 
-add-t24 : tie.Need-add-t24
-add-t24 c = search needs
+add-t25 : tie.Need-add-t25
+add-t25 c = search needs
 
-sub-t26 : tie.Need-sub-t26
-sub-t26 c = omega (arith, cleared c, c .before .before .before .pre .0)
+sub-t27 : tie.Need-sub-t27
+sub-t27 c = omega (arith, cleared c, c .before .before .before .pre .0)
 
-add-t27 : tie.Need-add-t27
-add-t27 c = search needs
+add-t28 : tie.Need-add-t28
+add-t28 c = search needs
 
-mul-t28 : tie.Need-mul-t28
-mul-t28 c =
+mul-t29 : tie.Need-mul-t29
+mul-t29 c =
     let u = cleared c in
     let m = c .before .before .before .args .m in
     let j = c .before .s4 .given .0 .0 in
@@ -122,8 +125,17 @@ mul-t28 c =
 enum-known-s-5 : tie.Need-enum-known-s-5
 enum-known-s-5 c = search needs
 
-sub-t30 : tie.Need-sub-t30
-sub-t30 c = omega (arith, opened c, c .before .before .before .pre .0)
+sub-t31 : tie.Need-sub-t31
+sub-t31 c = omega (arith, opened c, c .before .before .before .pre .0)
+
+enum-known-s-6 : tie.Need-enum-known-s-6
+enum-known-s-6 c = search needs
+
+add-t32 : tie.Need-add-t32
+add-t32 c = search needs
+
+sub-t34 : tie.Need-sub-t34
+sub-t34 c = omega (arith, lifted c, c .before .before .before .pre .0)
 
 returns : tie.Need-returns
 unfolding partAt
@@ -170,6 +182,10 @@ returns-5 c =
     let y : m + 1 - 1 - j ≡ m - j = omega arith in
     rw (c .before .s5 .given .1, y)
 
+returns-6 : tie.Need-returns-6
+unfolding partAt
+returns-6 c = rw (c .before .s6 .given .1)
+
 pub part-at-spec : {M : Type 1} → statement M
 part-at-spec =
     tie.close
@@ -179,28 +195,32 @@ part-at-spec =
     sub-y
     sub-done
     sub-done-2
-    mul-t17
+    mul-t18
     enum-known-s-2
     add-y-2
     sub-y-2
     sub-done-3
-    mul-t21
+    mul-t22
     enum-known-s-3
     add-done
     sub-done-4
-    add-t22
-    mul-t23
+    add-t23
+    mul-t24
     enum-known-s-4
     add-y-3
     sub-y-3
-    add-t24
-    sub-t26
-    add-t27
-    mul-t28
+    add-t25
+    sub-t27
+    add-t28
+    mul-t29
     enum-known-s-5
-    sub-t30
+    sub-t31
+    enum-known-s-6
+    add-t32
+    sub-t34
     returns
     returns-2
     returns-3
     returns-4
-    returns-5)
+    returns-5
+    returns-6)

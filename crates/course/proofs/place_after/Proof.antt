@@ -2,7 +2,7 @@
 -- Assumes nothing.
 use native.Mathlib.Omega.{arith}
 use borrow.Author.Tests.{lt-ltb, le-ltb, eq-eqb, ne-eqb}
-use Rattle.course.specs.declared.Step.the-variants.{Clear}
+use Rattle.course.specs.declared.Step.the-variants.{Clear, Lift}
 use Rattle.course.specs.Next.{following}
 use Rattle.course.proofs.Within.{within}
 use borrow.Author.Needs.{needs}
@@ -12,8 +12,8 @@ use Rattle.course.proofs.place_after.Tie as tie
 enum-known-s : tie.Need-enum-known-s
 enum-known-s c = search needs
 
-add-t14 : tie.Need-add-t14
-add-t14 c = search needs
+add-t15 : tie.Need-add-t15
+add-t15 c = search needs
 
 enum-known-s-2 : tie.Need-enum-known-s-2
 enum-known-s-2 c = search needs
@@ -21,14 +21,14 @@ enum-known-s-2 c = search needs
 enum-known-s-3 : tie.Need-enum-known-s-3
 enum-known-s-3 c = search needs
 
-add-t22 : tie.Need-add-t22
-add-t22 c = search needs
+add-t23 : tie.Need-add-t23
+add-t23 c = search needs
 
 enum-known-s-4 : tie.Need-enum-known-s-4
 enum-known-s-4 c = search needs
 
-add-t27 : tie.Need-add-t27
-add-t27 c = search needs
+add-t28 : tie.Need-add-t28
+add-t28 c = search needs
 
 add-first-of : tie.Need-add-first-of
 add-first-of c =
@@ -41,8 +41,13 @@ first-of-requires c κs = search needs
 enum-known-s-5 : tie.Need-enum-known-s-5
 enum-known-s-5 c = search needs
 
-sub-t32 : tie.Need-sub-t32
-sub-t32 c = search needs
+enum-known-s-6 : tie.Need-enum-known-s-6
+enum-known-s-6 c = search needs
+
+sub-t34 : tie.Need-sub-t34
+sub-t34 c =
+    let w = within _ (Lift (c .before .s6 .given .0 .0)) (rw (c .before .s6 .given .1) at (c .before .before .before .pre)) in
+    omega arith
 
 returns : tie.Need-returns
 unfolding following
@@ -84,5 +89,9 @@ returns-10 : tie.Need-returns-10
 unfolding following
 returns-10 c = simp (c .before .before .s5 .given .1, le-ltb _ _ (c .if5 .left))
 
+returns-11 : tie.Need-returns-11
+unfolding following
+returns-11 c = rw (c .before .s6 .given .1)
+
 pub place-after-spec : {M : Type 1} → statement M
-place-after-spec = tie.close (tie.spec enum-known-s add-t14 enum-known-s-2 enum-known-s-3 add-t22 enum-known-s-4 add-t27 add-first-of first-of-requires enum-known-s-5 sub-t32 returns returns-2 returns-3 returns-4 returns-5 returns-6 returns-7 returns-8 returns-9 returns-10)
+place-after-spec = tie.close (tie.spec enum-known-s add-t15 enum-known-s-2 enum-known-s-3 add-t23 enum-known-s-4 add-t28 add-first-of first-of-requires enum-known-s-5 enum-known-s-6 sub-t34 returns returns-2 returns-3 returns-4 returns-5 returns-6 returns-7 returns-8 returns-9 returns-10 returns-11)

@@ -10,7 +10,7 @@ use Rattle.sharing.specs.Run.{pairs}
 use Rattle.sharing.specs.Bounds.{mostWidth}
 use Rattle.flag.specs.Flag.{flagDraws}
 use Rattle.course.specs.declared.Step.{Step}
-use Rattle.course.specs.declared.Step.the-variants.{Mix, Check, Scale, Clear, Open}
+use Rattle.course.specs.declared.Step.the-variants.{Mix, Check, Scale, Clear, Open, Lift}
 use Rattle.course.specs.declared.Place.{Place}
 use Rattle.course.specs.declared.Place.the-variants.{At, Stopped, Done}
 use Rattle.course.specs.declared.Order.{Order}
@@ -35,6 +35,7 @@ partAt w (Check j) = part (w + 1 - j) (w - 1 - j) ((w - 1 - j) * (w + 1 - j)) 0
 partAt w (Scale j) = part (w + 1 - j) (w - j) ((w - j) * (w - j)) 0
 partAt w (Clear j k) = part (w - j) 0 0 ((w - k) * (w + 1 - j))
 partAt w (Open j) = part 1 0 (w - 1 - j) 0
+partAt w (Lift j) = part 1 0 (w - j) 0
 
 -- and of a place: stopped at j stands where Scale(j) does
 unfoldable pub partOf : ℕ → Place → Part

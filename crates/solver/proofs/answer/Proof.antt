@@ -5,11 +5,11 @@ use native.Mathlib.Omega.{arith}
 use borrow.Author.Tests.{eq-eqb, ne-eqb}
 use borrow.Author.Needs.{needs}
 use Rattle.course.specs.declared.Step.{Step}
-use Rattle.course.specs.declared.Step.the-variants.{Mix, Check, Scale, Clear, Open}
+use Rattle.course.specs.declared.Step.the-variants.{Mix, Check, Scale, Clear, Open, Lift}
 use Rattle.course.specs.StepList.{revealedBy}
 use Rattle.verdict.specs.Calls.{Says, gives}
 use Rattle.solver.specs.Calls.{Stride, moved, tells}
-use Rattle.solver.proofs.Ready.{not-of-four}
+use Rattle.solver.proofs.Ready.{not-of-five}
 use Rattle.solver.proofs.answer.Statement.{statement}
 use Rattle.solver.proofs.answer.Tie as tie
 
@@ -33,10 +33,11 @@ returns-3 c = by (c .before .before .args .s) refl
   where
     by : (s : Step) → c .before .before .args .s ≡ s → gives moved ≡ gives (tells (revealedBy (c .before .before .args .s)) (c .before .before .args .x))
     by (Mix j k) e = rw e
-    by (Check j) e = absurd (not-of-four (λ h. omega arith) (λ h. omega arith) (λ h. omega arith) (λ h. omega arith) (rw e at (c .before .match .keys2)))
+    by (Check j) e = absurd (not-of-five (λ h. omega arith) (λ h. omega arith) (λ h. omega arith) (λ h. omega arith) (λ h. omega arith) (rw e at (c .before .match .keys2)))
     by (Scale j) e = rw e
     by (Clear j k) e = rw e
-    by (Open j) e = absurd (not-of-four (λ h. omega arith) (λ h. omega arith) (λ h. omega arith) (λ h. omega arith) (rw e at (c .match2 .keys2)))
+    by (Open j) e = absurd (not-of-five (λ h. omega arith) (λ h. omega arith) (λ h. omega arith) (λ h. omega arith) (λ h. omega arith) (rw e at (c .match2 .keys2)))
+    by (Lift j) e = rw e
 
 returns-4 : tie.Need-returns-4
 unfolding revealedBy tells

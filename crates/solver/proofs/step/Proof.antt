@@ -27,6 +27,9 @@ enum-known-place c = search needs
 same-length : tie.Need-same-length
 same-length c = search needs
 
+same-length-2 : tie.Need-same-length-2
+same-length-2 c = search needs
+
 returns : tie.Need-returns
 unfolding stepCall
 returns c =
@@ -45,18 +48,21 @@ answer-requires c κs = search needs
 next-requires : tie.Need-next-requires
 next-requires c κs = search needs
 
-same-length-2 : tie.Need-same-length-2
-same-length-2 c = search needs
-
-returns-2 : tie.Need-returns-2
-unfolding stepCall
-returns-2 c = refuses-call _ _ _ _ _ (c .before .before .before .step .ensures) (c .before .r .given .1)
-
 same-length-3 : tie.Need-same-length-3
 same-length-3 c = search needs
 
 same-length-4 : tie.Need-same-length-4
 same-length-4 c = search needs
+
+returns-2 : tie.Need-returns-2
+unfolding stepCall
+returns-2 c = refuses-call _ _ _ _ _ (c .before .before .before .step .ensures) (c .before .r .given .1)
+
+same-length-5 : tie.Need-same-length-5
+same-length-5 c = search needs
+
+same-length-6 : tie.Need-same-length-6
+same-length-6 c = search needs
 
 returns-3 : tie.Need-returns-3
 unfolding stepCall
@@ -75,12 +81,14 @@ step-spec =
     enum-told
     enum-known-place
     same-length
+    same-length-2
     returns
     act-requires
     answer-requires
     next-requires
-    same-length-2
-    returns-2
     same-length-3
     same-length-4
+    returns-2
+    same-length-5
+    same-length-6
     returns-3)

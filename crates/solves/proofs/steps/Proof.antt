@@ -8,10 +8,10 @@ use Rattle.solves.proofs.steps.Statement.{statement}
 use Rattle.solves.proofs.steps.Tie as tie
 
 abbrev Inv-loop : tie.InvT-loop
-Inv-loop table₀ x₀ mask r₀ counter₀ table x r counter = (counter ≤ 35) × (length table ≡ length table₀) × (length x ≡ length x₀)
+Inv-loop table₀ x₀ mask r₀ counter₀ table x r counter = (counter ≤ 39) × (length table ≡ length table₀) × (length x ≡ length x₀)
 
 abbrev μ-loop : tie.MeasureT-loop
-μ-loop table₀ x₀ mask r₀ counter₀ table x r counter = 35 - counter
+μ-loop table₀ x₀ mask r₀ counter₀ table x r counter = 39 - counter
 
 loop-holds : tie.Need-loop-holds Inv-loop μ-loop
 loop-holds c = (search needs, search needs, search needs)

@@ -2,7 +2,7 @@
 -- Assumes nothing.
 use Prim.Native.Nat.{_≤_}
 use native.Mathlib.Omega.{arith}
-use Rattle.course.specs.declared.Step.the-variants.{Mix, Check, Scale, Clear, Open}
+use Rattle.course.specs.declared.Step.the-variants.{Mix, Check, Scale, Clear, Open, Lift}
 use Rattle.course.specs.StepList.{costOf, revealedBy}
 use Rattle.course.proofs.Within.{within}
 use Rattle.walk.specs.Act.{opened, acted}
@@ -14,6 +14,10 @@ use Rattle.walk.proofs.act.Tie as tie
 -- the column of an Open
 opening : (c : tie.After-s5) → let j = c .s5 .given .0 .0 in (1 ≤ j) × (j ≤ c .before .before .before .before .before .before .args .o .size)
 opening c = within _ (Open (c .s5 .given .0 .0)) (rw (c .s5 .given .1) at (c .before .before .before .before .before .before .pre .1 .0))
+
+-- and of a Lift
+lifting : (c : tie.After-s6) → let j = c .s6 .given .0 .0 in (2 ≤ j) × (j ≤ c .before .before .before .before .before .before .args .o .size)
+lifting c = within _ (Lift (c .s6 .given .0 .0)) (rw (c .s6 .given .1) at (c .before .before .before .before .before .before .pre .1 .0))
 
 add-w : tie.Need-add-w
 add-w c = search needs
@@ -82,12 +86,24 @@ slice-write-solution c =
     let w = opening s in
     omega (arith, s .before .before .before .before .before .before .pre .1 .1 .0 .1)
 
+enum-known-s-6 : tie.Need-enum-known-s-6
+enum-known-s-6 c = search needs
+
+sub-lift : tie.Need-sub-lift
+sub-lift c = let w = lifting (c .before .before) in omega arith
+
+slice-read-lift : tie.Need-slice-read-lift
+slice-read-lift c =
+    let s = c .before .before .before in
+    let w = lifting s in
+    omega (arith, s .before .before .before .before .before .before .pre .1 .1 .0 .1)
+
 lift-requires : tie.Need-lift-requires
 lift-requires c κs =
-    let s = c .before .before .before .before in
+    let s = c .before .before .before in
     let p = s .before .before .before .before .before .before .pre in
-    let w = opening s in
-    (square (p .0) .fits, (pivot (w .0) (w .1), p .1 .1 .0 .0))
+    let w = lifting s in
+    (square (p .0) .fits, (pivot (omega arith) (w .1), p .1 .1 .0 .0))
 
 same-length : tie.Need-same-length
 same-length c = search needs
@@ -134,9 +150,18 @@ same-length-6 c = search needs
 returns-5 : tie.Need-returns-5
 unfolding opened acted revealedBy
 returns-5 c =
-    let e = c .before .before .before .before .before .before .before .s5 .given .1 in
-    let x = c .before .before .before .before .«open» .ensures in
-    (rw (e, x), rw (e, c .before .before .lift .ensures, x))
+    let e = c .before .before .before .s5 .given .1 in
+    let x = c .«open» .ensures in
+    (rw (e, x), rw (e, x))
+
+same-length-7 : tie.Need-same-length-7
+same-length-7 c = search needs
+
+returns-6 : tie.Need-returns-6
+unfolding opened acted revealedBy
+returns-6 c =
+    let e = c .before .before .before .before .before .before .s6 .given .1 in
+    (rw e, rw (e, c .before .before .lift .ensures))
 
 pub act-spec : {M : Type 1} → statement M
 act-spec =
@@ -155,6 +180,9 @@ act-spec =
     open-requires
     sub-solution
     slice-write-solution
+    enum-known-s-6
+    sub-lift
+    slice-read-lift
     lift-requires
     same-length
     returns
@@ -166,4 +194,6 @@ act-spec =
     returns-4
     same-length-5
     same-length-6
-    returns-5)
+    returns-5
+    same-length-7
+    returns-6)

@@ -12,8 +12,8 @@ use Rattle.host.proofs.words.place_of.Tie as tie
 past-3 : (n : ℕ) → (n ≡ 0 → ⊥) → (n ≡ 1 → ⊥) → (n ≡ 2 → ⊥) → (n ≡ 3 → ⊥) → 4 ≤ n
 past-3 n h i j k = omega arith
 
-past-6 : (n : ℕ) → 4 ≤ n → (n ≡ 4 → ⊥) → (n ≡ 5 → ⊥) → (n ≡ 6 → ⊥) → 7 ≤ n
-past-6 n h i j k = omega arith
+past-7 : (n : ℕ) → 4 ≤ n → (n ≡ 4 → ⊥) → (n ≡ 5 → ⊥) → (n ≡ 6 → ⊥) → (n ≡ 7 → ⊥) → 8 ≤ n
+past-7 n h i j k l = omega arith
 
 carrying-no-requires : tie.Need-carrying-no-requires
 carrying-no-requires c κs = search needs
@@ -32,6 +32,9 @@ carrying-no-requires-5 c κs = search needs
 
 carrying-no-requires-6 : tie.Need-carrying-no-requires-6
 carrying-no-requires-6 c κs = search needs
+
+carrying-no-requires-7 : tie.Need-carrying-no-requires-7
+carrying-no-requires-7 c κs = search needs
 
 no-place-requires : tie.Need-no-place-requires
 no-place-requires c κs = search needs
@@ -66,11 +69,15 @@ returns-7 c = rw (c .before .before .match .keys7, c .carrying-no6 .ensures, c .
 
 returns-8 : tie.Need-returns-8
 unfolding placeOf
-returns-8 c =
+returns-8 c = rw (c .before .match .keys8, c .carrying-no7 .ensures)
+
+returns-9 : tie.Need-returns-9
+unfolding placeOf
+returns-9 c =
     let others = c .before .match .rest in
-    let some = past-3 _ (others .0 .0 .0 .0 .0 .0 .1) (others .0 .0 .0 .0 .0 .1) (others .0 .0 .0 .0 .1) (others .0 .0 .0 .1) in
+    let some = past-3 _ (others .0 .0 .0 .0 .0 .0 .0 .1) (others .0 .0 .0 .0 .0 .0 .1) (others .0 .0 .0 .0 .0 .1) (others .0 .0 .0 .0 .1) in
     c .no-place .ensures
-    ∙ sym (List·getD-eq-default (places (c .before .before .args .j) (c .before .before .args .k)) nowhere (past-6 _ some (others .0 .0 .1) (others .0 .1) (others .1)))
+    ∙ sym (List·getD-eq-default (places (c .before .before .args .j) (c .before .before .args .k)) nowhere (past-7 _ some (others .0 .0 .0 .1) (others .0 .0 .1) (others .0 .1) (others .1)))
 
 pub place-of-spec : {M : Type 1} → statement M
 place-of-spec =
@@ -82,6 +89,7 @@ place-of-spec =
     carrying-no-requires-4
     carrying-no-requires-5
     carrying-no-requires-6
+    carrying-no-requires-7
     no-place-requires
     returns
     returns-2
@@ -90,4 +98,5 @@ place-of-spec =
     returns-5
     returns-6
     returns-7
-    returns-8)
+    returns-8
+    returns-9)

@@ -20,6 +20,9 @@ enum-known-s-4 c = search needs
 enum-known-s-5 : tie.Need-enum-known-s-5
 enum-known-s-5 c = search needs
 
+enum-known-s-6 : tie.Need-enum-known-s-6
+enum-known-s-6 c = search needs
+
 returns : tie.Need-returns
 unfolding stepSpot
 returns c = rw (c .before .s .given .1)
@@ -40,6 +43,10 @@ returns-5 : tie.Need-returns-5
 unfolding stepSpot
 returns-5 c = rw (c .before .s5 .given .1)
 
+returns-6 : tie.Need-returns-6
+unfolding stepSpot
+returns-6 c = rw (c .before .s6 .given .1)
+
 pub spot-of-step-spec : {M : Type 1} → statement M
 spot-of-step-spec =
     tie.close
@@ -49,8 +56,10 @@ spot-of-step-spec =
     enum-known-s-3
     enum-known-s-4
     enum-known-s-5
+    enum-known-s-6
     returns
     returns-2
     returns-3
     returns-4
-    returns-5)
+    returns-5
+    returns-6)

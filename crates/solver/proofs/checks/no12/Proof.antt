@@ -11,7 +11,7 @@ use Rattle.course.specs.StepList.{costOf, revealedBy}
 use Rattle.walk.proofs.Acted.{square}
 use Rattle.solver.specs.Refusals.{costAt, columnOf, no12}
 use Rattle.verdict.proofs.Verdicts.{tests}
-use Rattle.solver.proofs.Ready.{not-of-four, no-pivot, at-step, pivot-cell, pivot-told}
+use Rattle.solver.proofs.Ready.{not-of-five, no-pivot, at-step, pivot-cell, pivot-told}
 use Rattle.solver.proofs.checks.no12.Statement.{statement}
 use Rattle.solver.proofs.checks.no12.Tie as tie
 
@@ -30,7 +30,7 @@ returns-2 c =
     (λ j e.
     let at = c .before .before .p .given .1 in
     let same : c .before .before .p .given .0 .0 ≡ Scale j = cc in
-    not-of-four (λ h. omega arith) (λ h. omega arith) (λ h. omega arith) (λ h. omega arith) (rw same at (c .match2 .keys2)))
+    not-of-five (λ h. omega arith) (λ h. omega arith) (λ h. omega arith) (λ h. omega arith) (λ h. omega arith) (rw same at (c .match2 .keys2)))
 
 add-opens-zero : tie.Need-add-opens-zero
 add-opens-zero c = search needs

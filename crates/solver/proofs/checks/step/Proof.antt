@@ -8,12 +8,12 @@ use Rattle.verdict.specs.Refusals.{no6}
 use Rattle.verdict.specs.Code.Verdicts.{told}
 use Rattle.solver.specs.Refusals.{tableRows, stepOrder}
 use Rattle.solver.proofs.Ready.{sized, placing-says, lending-says}
-use Rattle.verdict.proofs.Verdicts.{stops-at, goes-on, passes}
+use Rattle.verdict.proofs.Verdicts.{stops-at, goes-on, passes, ors}
 use Rattle.solver.proofs.checks.step.Statement.{statement}
 use Rattle.solver.proofs.checks.step.Tie as tie
 
 -- what 6 tells
-six : (l : tie.After-no6) → let x = l .before .before .before .before .before .before .before .before .before .before .before .args in
+six : (l : tie.After-no6) → let x = l .before .before .before .before .before .before .before .before .before .before .before .before .args in
     told (l .no6 .result) ≡ no6 (x .p .field) (tableRows (orderOf (x .p))) (x .table .now)
 six l = rw (← (l .before .table-rows .ensures .0)) (l .no6 .ensures)
 
@@ -94,25 +94,36 @@ returns-4 c =
     ∙ goes-on _ _ _ (second .before .before .placing .ensures) (second .enum-told3 .given .1)
     ∙ goes-on _ _ _ (first .before .before .sizes .ensures) (first .enum-told .given .1)
 
-no12-requires : tie.Need-no12-requires
-no12-requires c κs =
+no20-requires : tie.Need-no20-requires
+no20-requires c κs =
     let third = c .before .before .before in
     let second = third .before .before .before .before in
-    let first = second .before .before .before in
     let p = placing-says _ _ _ (passes _ _ (second .before .before .placing .ensures) (second .enum-told3 .given .1)) in
-    let l = lending-says _ _ _ _ (passes _ _ (c .before .before .lending .ensures) (c .enum-told7 .given .1)) in (
-      sized _ (passes _ _ (first .before .before .sizes .ensures) (first .enum-told .given .1)),
-      (p .listed, (p .whole, ((omega (arith, l .masks), omega (arith, l .others)), l .nonzeros))),
-    )
+    (p .listed, p .room)
 
-returns-5 : tie.Need-returns-5
-unfolding stepOrder
-returns-5 c =
+no12-requires : tie.Need-no12-requires
+no12-requires c κs =
     let fourth = c .before in
     let third = fourth .before .before .before in
     let second = third .before .before .before .before in
     let first = second .before .before .before in
-    c .no12 .ensures ∙ goes-on _ _ _ (fourth .before .before .lending .ensures) (fourth .enum-told7 .given .1)
+    let p = placing-says _ _ _ (passes _ _ (second .before .before .placing .ensures) (second .enum-told3 .given .1)) in
+    let l = lending-says _ _ _ _ (passes _ _ (fourth .before .before .lending .ensures) (fourth .enum-told7 .given .1)) in (
+      sized _ (passes _ _ (first .before .before .sizes .ensures) (first .enum-told .given .1)),
+      (p .listed, (p .whole, ((omega (arith, l .masks), omega (arith, l .others)), l .nonzeros))),
+    )
+
+or-else-requires : tie.Need-or-else-requires
+or-else-requires c κs = search needs
+
+returns-5 : tie.Need-returns-5
+unfolding stepOrder
+returns-5 c =
+    let fourth = c .before .before .before in
+    let third = fourth .before .before .before in
+    let second = third .before .before .before .before in
+    let first = second .before .before .before in
+    ors (c .or-else .ensures) (c .before .before .no20 .ensures) (c .before .no12 .ensures) ∙ goes-on _ _ _ (fourth .before .before .lending .ensures) (fourth .enum-told7 .given .1)
     ∙ goes-on _ _ _ (six (third .before .before)) (third .enum-told5 .given .1)
     ∙ goes-on _ _ _ (second .before .before .placing .ensures) (second .enum-told3 .given .1)
     ∙ goes-on _ _ _ (first .before .before .sizes .ensures) (first .enum-told .given .1)
@@ -138,5 +149,7 @@ step-spec =
     enum-told-7
     enum-told-8
     returns-4
+    no20-requires
     no12-requires
+    or-else-requires
     returns-5)

@@ -112,6 +112,12 @@ enum-told-3 c = search needs
 with-detail-requires-16 : tie.Need-with-detail-requires-16
 with-detail-requires-16 c κs = search needs
 
+enum-known-self-16 : tie.Need-enum-known-self-16
+enum-known-self-16 c = search needs
+
+with-detail-requires-17 : tie.Need-with-detail-requires-17
+with-detail-requires-17 c κs = search needs
+
 returns : tie.Need-returns
 returns c = rw (c .before .before .self .given .1, c .with-detail .ensures)
 
@@ -166,6 +172,9 @@ returns-17 c = rw (c .before .before .self15 .given .1, c .with-detail15 .ensure
 returns-18 : tie.Need-returns-18
 returns-18 c = rw (c .before .enum-told3 .given .1, c .with-detail16 .ensures)
 
+returns-19 : tie.Need-returns-19
+returns-19 c = rw (c .before .before .self16 .given .1, c .with-detail17 .ensures)
+
 pub report-spec : {M : Type 1} → statement M
 report-spec =
     tie.close
@@ -206,6 +215,8 @@ report-spec =
     with-detail-requires-15
     enum-told-3
     with-detail-requires-16
+    enum-known-self-16
+    with-detail-requires-17
     returns
     returns-2
     returns-3
@@ -223,4 +234,5 @@ report-spec =
     returns-15
     returns-16
     returns-17
-    returns-18)
+    returns-18
+    returns-19)
