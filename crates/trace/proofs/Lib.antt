@@ -9,3 +9,4 @@ pub mod Progress
 pub mod Dealt
 pub mod Twin
 pub mod Wanted
+pub mod Bytes
