@@ -1,4 +1,4 @@
-// The five steps on a lent table, share for share as 01's step list says. Stands on row, flag and sharing.
+// The six steps on a lent table, share for share as 01's step list says, with Open in two by R-7 of 02. Stands on row, flag and sharing.
 // f is the field's number, n the shares and w the entries of a row; the step works on the table in place and on copies of what it reads
 // twice. mask and nonzero are parts of the two tapes that begin at the step's own first draw and are at least as long as it needs.
 ghost use mathlib.Core.Path.{_≡_};
