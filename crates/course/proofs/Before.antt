@@ -8,6 +8,7 @@ use Prim.Native.Nat.{ℕ, zero, suc, _<_, _≤_, _+_, _-_, _*_}
 use native.Mathlib.Omega.{arith}
 use lib.Dec.{ltb, eqb}
 use lib.ListN.{take}
+use lib.Seq.{take-all}
 use borrow.Author.Tests.{ltb-true, ltb-false}
 use Rattle.field.specs.Field.{pick}
 use Rattle.course.specs.declared.Step.{Step}
@@ -20,7 +21,7 @@ use Rattle.course.specs.Taken.{beforeStep, stepsBefore, takenAt}
 use Rattle.course.specs.Next.{firstOf, following}
 use Rattle.course.proofs.Within.{within}
 use Rattle.course.proofs.Chain.{columns-split, check-last}
-use Rattle.course.proofs.Sums.{sum-append}
+use Rattle.course.proofs.Sums.{openings-length, sum-append}
 use Rattle.course.proofs.Along.{either}
 
 -- one more of a run is its next one, at the end
@@ -32,48 +33,39 @@ each-snoc f zero a b k e g =
 each-snoc f (suc n) a b k e g =
     rw (e, each-snoc f n (a + 1) (suc n) k refl (omega arith))
 
--- after an Open and a Lift for each of d unknowns comes Open(j), and then Lift(j) where j is not 1
-module _ (j : ℕ) where
-  pub open-next : (d n a b : ℕ) → j + d ≡ n → 1 ≤ j → a ≡ 2 * d → b ≡ a + 1 → take b (openings n) ≡ take a (openings n) ++ (Open j ∷ [])
-  unfolding openings
-  open-next d zero a b e l p q = absurd (let n : ⊥ = omega arith in n)
-  open-next zero (suc zero) a b e l p q =
-      let x : j ≡ 1 = omega arith in
-      let y : b ≡ 1 = omega arith in
-      rw (p, x, y)
-  open-next zero (suc (suc n)) a b e l p q =
-      let x : j ≡ suc (suc n) = omega arith in
-      let y : b ≡ 1 = omega arith in
-      rw (p, x, y)
-  open-next (suc d) (suc zero) a b e l p q = absurd (let n : ⊥ = omega arith in n)
-  open-next (suc d) (suc (suc n)) a b e l p q =
-      let x : a ≡ suc (suc (2 * d)) = omega arith in
-      let y : b ≡ suc (suc (2 * d + 1)) = omega arith in
-      rw (x, y)
-      (ap (λ (k : List Step). Open (suc (suc n)) ∷ Lift (suc (suc n)) ∷ k) (open-next d (suc n) (2 * d) (2 * d + 1) (omega arith) l refl refl))
-
-  lift-next : (d n a b : ℕ) → j + d ≡ n → 2 ≤ j → a ≡ 2 * d + 1 → b ≡ a + 1 → take b (openings n) ≡ take a (openings n) ++ (Lift j ∷ [])
-  unfolding openings
-  lift-next d zero a b e l p q = absurd (let n : ⊥ = omega arith in n)
-  lift-next d (suc zero) a b e l p q = absurd (let n : ⊥ = omega arith in n)
-  lift-next zero (suc (suc n)) a b e l p q =
-      let x : j ≡ suc (suc n) = omega arith in
-      let y : b ≡ 2 = omega arith in
-      rw (p, x, y)
-  lift-next (suc d) (suc (suc n)) a b e l p q =
-      let x : a ≡ suc (suc (2 * d + 1)) = omega arith in
-      let y : b ≡ suc (suc (2 * d + 2)) = omega arith in
-      rw (x, y)
-      (ap (λ (k : List Step). Open (suc (suc n)) ∷ Lift (suc (suc n)) ∷ k) (lift-next d (suc n) (2 * d + 1) (2 * d + 2) (omega arith) l refl (omega arith)))
-
--- with Open(1) that is all of them
-pub openings-all : (n a : ℕ) → a ≡ n + n - 1 → take a (openings n) ≡ openings n
+-- what comes after an Open and a Lift for each of d unknowns are the openings of the j that are left
+openings-split : (d a n j : ℕ) → j + d ≡ n → 1 ≤ j → take (2 * d + a) (openings n) ≡ take (2 * d) (openings n) ++ take a (openings j)
 unfolding openings
-openings-all zero a e = rw e
-openings-all (suc zero) a e = rw e
-openings-all (suc (suc n)) a e =
-    let x : a ≡ suc (suc (suc n + suc n - 1)) = omega arith in
-    rw x (ap (λ (k : List Step). Open (suc (suc n)) ∷ Lift (suc (suc n)) ∷ k) (openings-all (suc n) (suc n + suc n - 1) refl))
+openings-split zero a n j e l =
+    let x : j ≡ n = omega arith in
+    let y : 2 * 0 + a ≡ a = omega arith in
+    rw (x, y)
+openings-split (suc d) a zero j e l = absurd (let n : ⊥ = omega arith in n)
+openings-split (suc d) a (suc zero) j e l = absurd (let n : ⊥ = omega arith in n)
+openings-split (suc d) a (suc (suc n)) j e l =
+    let x : 2 * suc d + a ≡ suc (suc (2 * d + a)) = omega arith in
+    let y : 2 * suc d ≡ suc (suc (2 * d)) = omega arith in
+    rw (x, y) (ap (λ (k : List Step). Open (suc (suc n)) ∷ Lift (suc (suc n)) ∷ k) (openings-split d a (suc n) j (omega arith) l))
+
+first-open : (j : ℕ) → 1 ≤ j → take 1 (openings j) ≡ Open j ∷ []
+unfolding openings
+first-open zero l = absurd (let n : ⊥ = omega arith in n)
+first-open (suc zero) l = refl
+first-open (suc (suc n)) l = refl
+
+first-lift : (j : ℕ) → 2 ≤ j → take 2 (openings j) ≡ Open j ∷ Lift j ∷ []
+unfolding openings
+first-lift zero l = absurd (let n : ⊥ = omega arith in n)
+first-lift (suc zero) l = absurd (let n : ⊥ = omega arith in n)
+first-lift (suc (suc n)) l = refl
+
+-- so there comes Open(j), and then Lift(j) where j is not 1
+pub open-next : (d n j : ℕ) → j + d ≡ n → 1 ≤ j → take (2 * d + 1) (openings n) ≡ take (2 * d) (openings n) ++ (Open j ∷ [])
+open-next d n j e l = rw (openings-split d 1 n j e l, first-open j l)
+
+lift-next : (d n j : ℕ) → j + d ≡ n → 2 ≤ j → take (2 * d + 2) (openings n) ≡ take (2 * d + 1) (openings n) ++ (Lift j ∷ [])
+lift-next d n j e l =
+    rw (openings-split d 2 n j e (omega arith), first-lift j l, open-next d n j e (omega arith)) (simp append-assoc)
 
 -- by whether k is below m
 pub by-less : {A : Type 0} (P : A → Type 0) (k m : ℕ) {x y : A} → (k < m → P x) → (m ≤ k → P y) → P (pick (ltb k m) x y)
@@ -140,13 +132,14 @@ module _ (m : ℕ) where
       ∙ simp (append-assoc, each-snoc (Clear j) (k - j - 1) (j + 1) (m - j) k (omega arith) (omega arith)))
   added (Open j) x h =
       let w = within m (Open j) h in
-      let o = open-next j (m - j) m (2 * (m - j)) (2 * (m - j) + 1) (omega arith) (w .0) refl refl in
+      let o = open-next (m - j) m j (omega arith) (w .0) in
       by-less (λ (p : Place). stepsBefore m p ≡ stepsBefore m (At (Open j)) ++ (Open j ∷ [])) 1 j
       (λ l. rw o (simp append-assoc))
-      (λ l. simp append-assoc (ap (λ (k : List Step). columns m 1 m ++ k) (sym (openings-all m (2 * (m - j) + 1) (omega arith)) ∙ o)))
+      (λ l. simp append-assoc (ap (λ (k : List Step). columns m 1 m ++ k) (sym (take-all (2 * (m - j) + 1) (openings m) (omega (arith, openings-length m))) ∙ o)))
   added (Lift j) x h =
       let w = within m (Lift j) h in
-      rw (lift-next j (m - j) m (2 * (m - j) + 1) (2 * (m - (j - 1))) (omega arith) (w .0) refl (omega arith)) (simp append-assoc)
+      let two : 2 * (m - (j - 1)) ≡ 2 * (m - j) + 2 = omega arith in
+      rw (two, lift-next (m - j) m j (omega arith) (w .0)) (simp append-assoc)
 
 module _ (o : Order) where
   -- nothing is taken before the first place

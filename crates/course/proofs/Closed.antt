@@ -7,6 +7,7 @@ use Prim.Native.Nat.{ℕ, zero, suc, _<_, _≤_, _+_, _-_, _*_, _/_}
 use native.Mathlib.Omega.{arith}
 use native.Mathlib.Nat.{mul-le-mul, div-eq-of-eq-mul-right}
 use lib.ListN.{take}
+use lib.Seq.{take-all}
 use Rattle.sharing.specs.Run.{pairs}
 use Rattle.sharing.specs.Rules.{inversionDraws}
 use Rattle.sharing.specs.Bounds.{mostRows, mostWidth}
@@ -22,8 +23,8 @@ use Rattle.course.specs.StepList.{Sizes, each, column, columns, openings
 use Rattle.course.specs.Taken.{beforeStep, stepsBefore, takenAt}
 use Rattle.course.specs.Code.Closed.{flagsOver, rowsOver, partAt, partOf, Stands, Kept, weighed, maskOf, nonzeroOf}
 use Rattle.course.proofs.Within.{within, in-list}
-use Rattle.course.proofs.Sums.{sum-append, each-none, columns-nonzero, nonzero-count}
-use Rattle.course.proofs.Before.{open-next, openings-all, column-last}
+use Rattle.course.proofs.Sums.{sum-append, openings-length, each-none, columns-nonzero, nonzero-count}
+use Rattle.course.proofs.Before.{open-next, column-last}
 
 -- ---- sums over the widths L = y+1..y+d: of L-1, and of (L-1)L
 
@@ -83,20 +84,20 @@ each-sum g f x h (suc n) a = omega (arith, h a, each-sum g f x h n (a + 1))
 
 -- the Opens that come before Open(j), and before Lift(j); a Lift adds nothing
 module _ (g : Step → ℕ) (x : ℕ) (h : (k : ℕ) → g (Open k) ≡ x) (none : (k : ℕ) → g (Lift k) ≡ 0) where
-  before-open : (d n a : ℕ) → d < n → a ≡ 2 * d → sumOver g (take a (openings n)) ≡ d * x
+  before-open : (d n : ℕ) → d < n → sumOver g (take (2 * d) (openings n)) ≡ d * x
   unfolding openings sumOver
-  before-open zero n a l e = rw e (omega arith)
-  before-open (suc d) zero a l e = absurd (let n : ⊥ = omega arith in n)
-  before-open (suc d) (suc zero) a l e = absurd (let n : ⊥ = omega arith in n)
-  before-open (suc d) (suc (suc n)) a l e =
-      let y : a ≡ suc (suc (2 * d)) = omega arith in
-      rw y (omega (arith, h (suc (suc n)), none (suc (suc n)), before-open d (suc n) (2 * d) (omega arith) refl))
+  before-open zero n l = omega arith
+  before-open (suc d) zero l = absurd (let n : ⊥ = omega arith in n)
+  before-open (suc d) (suc zero) l = absurd (let n : ⊥ = omega arith in n)
+  before-open (suc d) (suc (suc n)) l =
+      let y : 2 * suc d ≡ suc (suc (2 * d)) = omega arith in
+      rw y (omega (arith, h (suc (suc n)), none (suc (suc n)), before-open d (suc n) (omega arith)))
 
-  before-lift : (d n a : ℕ) → d < n → a ≡ 2 * d + 1 → sumOver g (take a (openings n)) ≡ (d + 1) * x
+  before-lift : (d n : ℕ) → d < n → sumOver g (take (2 * d + 1) (openings n)) ≡ (d + 1) * x
   unfolding sumOver
-  before-lift d n a l e =
-      rw (open-next (n - d) d n (2 * d) a (omega arith) (omega arith) refl e, sum-append g (take (2 * d) (openings n)) (Open (n - d) ∷ []))
-      (omega (arith, h (n - d), before-open d n (2 * d) l refl))
+  before-lift d n l =
+      rw (open-next d n (n - d) (omega arith) (omega arith), sum-append g (take (2 * d) (openings n)) (Open (n - d) ∷ []))
+      (omega (arith, h (n - d), before-open d n l))
 
 module _ (o : Order) where
   abbrev F : ℕ
@@ -237,13 +238,13 @@ module _ (o : Order) where
       → mask (columns (o .size) 1 (o .size) ++ l) ≡ maskOf (o .field) (o .shares) w (record { width = 1; flags = 0; more = more; less = 0 })
   opens z l d more h e = beyond z 1 (o .size) 0 more l (omega arith) (omega arith) (h ∙ omega (arith, ap (λ k. k * N) e))
 
-  first-opens : (d a : ℕ) → d < o .size → a ≡ 2 * d → mask (take a (openings (o .size))) ≡ d * N
+  first-opens : (d : ℕ) → d < o .size → mask (take (2 * d) (openings (o .size))) ≡ d * N
   unfolding costOf openCost
-  first-opens d a l e = before-open (maskCost o) N (λ k. refl) (λ k. refl) d (o .size) a l e
+  first-opens d l = before-open (maskCost o) N (λ k. refl) (λ k. refl) d (o .size) l
 
-  one-more : (d a : ℕ) → d < o .size → a ≡ 2 * d + 1 → mask (take a (openings (o .size))) ≡ (d + 1) * N
+  one-more : (d : ℕ) → d < o .size → mask (take (2 * d + 1) (openings (o .size))) ≡ (d + 1) * N
   unfolding costOf openCost
-  one-more d a l e = before-lift (maskCost o) N (λ k. refl) (λ k. refl) d (o .size) a l e
+  one-more d l = before-lift (maskCost o) N (λ k. refl) (λ k. refl) d (o .size) l
 
   spread : (n L : ℕ) → n * (F + L * N) ≡ F * n + N * (n * L)
   spread n L = omega arith
@@ -265,11 +266,11 @@ module _ (o : Order) where
   step-mask z (Open j) h =
       let u = within (o .size) (Open j) h in
       let d = o .size - j in
-      opens z _ d (w - 1 - j) (first-opens d (2 * d) (omega arith) refl) (omega arith)
+      opens z _ d (w - 1 - j) (first-opens d (omega arith)) (omega arith)
   step-mask z (Lift j) h =
       let u = within (o .size) (Lift j) h in
       let d = o .size - j in
-      opens z _ (d + 1) (w - j) (one-more d (2 * d + 1) (omega arith) refl) (omega arith)
+      opens z _ (d + 1) (w - j) (one-more d (omega arith)) (omega arith)
 
   -- the mask draws taken at a place
   pub mask-closed : Sizes o → (p : Place) → Stands (o .size) p → takenAt o p .mask ≡ maskOf (o .field) (o .shares) w (partOf w p)
@@ -277,9 +278,9 @@ module _ (o : Order) where
   mask-closed z (At s) h = step-mask z s h
   mask-closed z (Stopped j) h = up-to z j (h .0) (h .1)
   mask-closed z Done h =
-      let a = 2 * (o .size - 1) + 1 in
-      let all : take a (openings (o .size)) ≡ openings (o .size) = openings-all (o .size) a (omega (arith, z .some)) in
-      opens z (openings (o .size)) (o .size - 1 + 1) (w - 1) (ap mask (sym all) ∙ one-more (o .size - 1) a (omega (arith, z .some)) refl) (omega (arith, z .some))
+      let d = o .size - 1 in
+      let all : take (2 * d + 1) (openings (o .size)) ≡ openings (o .size) = take-all (2 * d + 1) (openings (o .size)) (omega (arith, openings-length (o .size), z .some)) in
+      opens z _ (d + 1) (w - 1) (ap mask (sym all) ∙ one-more d (omega (arith, z .some))) (omega (arith, z .some))
 
   -- ---- the nonzero draws
 
@@ -317,13 +318,13 @@ module _ (o : Order) where
   step-nonzero (Open j) h =
       let u = within (o .size) (Open j) h in
       let x : w - 1 ≡ o .size = omega arith in
-      let a = 2 * (o .size - j) in
-      rw x (omega (arith, columns-nonzeros (o .size) (take a (openings (o .size))), before-open (nonzeroCost o) 0 (λ k. refl) (λ k. refl) (o .size - j) (o .size) a (omega arith) refl))
+      let d = o .size - j in
+      rw x (omega (arith, columns-nonzeros (o .size) (take (2 * d) (openings (o .size))), before-open (nonzeroCost o) 0 (λ k. refl) (λ k. refl) d (o .size) (omega arith)))
   step-nonzero (Lift j) h =
       let u = within (o .size) (Lift j) h in
       let x : w - 1 ≡ o .size = omega arith in
-      let a = 2 * (o .size - j) + 1 in
-      rw x (omega (arith, columns-nonzeros (o .size) (take a (openings (o .size))), before-lift (nonzeroCost o) 0 (λ k. refl) (λ k. refl) (o .size - j) (o .size) a (omega arith) refl))
+      let d = o .size - j in
+      rw x (omega (arith, columns-nonzeros (o .size) (take (2 * d + 1) (openings (o .size))), before-lift (nonzeroCost o) 0 (λ k. refl) (λ k. refl) d (o .size) (omega arith)))
 
   pub nonzero-closed : (p : Place) → Stands (o .size) p → takenAt o p .nonzero ≡ nonzeroOf (o .shares) w (partOf w p)
   unfolding takenAt stepsBefore partOf partAt nonzeroOf

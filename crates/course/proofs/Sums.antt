@@ -43,7 +43,7 @@ columns-length m j (suc n) e =
     (omega (arith, suc-mul n (suc n + 1), mul-suc n (n + 1)))
 
 -- Open and Lift of each unknown, but for Lift(1)
-openings-length : (n : ℕ) → length (openings n) ≡ n + n - 1
+pub openings-length : (n : ℕ) → length (openings n) ≡ n + n - 1
 unfolding openings
 openings-length zero = refl
 openings-length (suc zero) = refl

@@ -2,7 +2,7 @@
 -- Assumes nothing.
 use mathlib.Core.Bool.{Bool, true, false, not, _&&_, _||_, false≢true}
 use mathlib.Core.List.{List}
-use mathlib.Core.Logic.{_⊎_, ⊎-elim}
+use mathlib.Core.Logic.{_⊎_, inl, inr, ⊎-elim}
 use mathlib.Core.Path.{_≡_, refl, sym, _∙_}
 use Prim.Native.Nat.{ℕ, _+_, _-_, _*_, _≤_}
 use native.Mathlib.Decide.{ℕ-discrete}
@@ -271,16 +271,19 @@ no-pivot o (Stopped j) t n = refl
 no-pivot o Done t n = refl
 
 -- and one that is no Lift reads no byte of the solution
-pub no-lift : (o : Order) (place : Place) (x : List ℕ) → ((j : ℕ) → place ≡ At (Lift j) → ⊥) → passed ≡ no20 o place x
+pub lift-or-not : (o : Order) (place : Place) (x : List ℕ) → ((j : ℕ) × (place ≡ At (Lift j))) ⊎ (no20 o place x ≡ passed)
 unfolding no20 liftRefused
-no-lift o (At (Mix j k)) x n = refl
-no-lift o (At (Check j)) x n = refl
-no-lift o (At (Scale j)) x n = refl
-no-lift o (At (Clear j k)) x n = refl
-no-lift o (At (Open j)) x n = refl
-no-lift o (At (Lift j)) x n = absurd (n j refl)
-no-lift o (Stopped j) x n = refl
-no-lift o Done x n = refl
+lift-or-not o (At (Mix j k)) x = inr refl
+lift-or-not o (At (Check j)) x = inr refl
+lift-or-not o (At (Scale j)) x = inr refl
+lift-or-not o (At (Clear j k)) x = inr refl
+lift-or-not o (At (Open j)) x = inr refl
+lift-or-not o (At (Lift j)) x = inl (j, refl)
+lift-or-not o (Stopped j) x = inr refl
+lift-or-not o Done x = inr refl
+
+pub no-lift : (o : Order) (place : Place) (x : List ℕ) → ((j : ℕ) → place ≡ At (Lift j) → ⊥) → passed ≡ no20 o place x
+no-lift o place x n = ⊎-elim (λ (l : (j : ℕ) × (place ≡ At (Lift j))). absurd (n (l .0) (l .1))) sym (lift-or-not o place x)
 
 -- the pivot's place of a Scale
 pub pivot-cell : (o : Order) (j : ℕ) → inList (o .size) (Scale j) ≡ true → Inside (o .size) (o .size + 1) j j

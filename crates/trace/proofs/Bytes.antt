@@ -2,34 +2,27 @@
 -- record, the place and the bytes are.
 -- Assumes nothing.
 use mathlib.Core.List.{List}
+use mathlib.Core.Logic.{⊎-elim}
 use mathlib.Core.Path.{_≡_, refl, ap, _∙_}
 use Prim.Native.Nat.{ℕ, _-_}
-use lib.ListN.{getD}
-use borrow.Author.Tests.{lt-leb}
 use Rattle.field.specs.Field.{F256, fieldOf}
 use Rattle.sharing.specs.Lists.{Below}
-use Rattle.course.specs.declared.Step.the-variants.{Mix, Check, Scale, Clear, Open, Lift}
+use Rattle.course.specs.declared.Step.the-variants.{Lift}
 use Rattle.course.specs.declared.Place.{Place}
-use Rattle.course.specs.declared.Place.the-variants.{At, Stopped, Done}
+use Rattle.course.specs.declared.Place.the-variants.{At}
 use Rattle.course.specs.declared.Order.{Order}
 use Rattle.verdict.specs.Told.{passed}
-use Rattle.verdict.specs.Refusals.{tooLarge}
-use Rattle.verdict.proofs.Passes.{unmet, six-passes}
-use Rattle.solver.specs.Refusals.{tableRows, liftRefused, no20}
+use Rattle.verdict.proofs.Passes.{six-passes}
+use Rattle.solver.specs.Refusals.{tableRows, no20}
+use Rattle.solver.proofs.Ready.{lift-or-not}
 use Rattle.trace.specs.Trace.{Beside, Host, orderIn, Never}
+use Rattle.trace.proofs.Pivot.{lift-passes}
 use Rattle.trace.proofs.Trace.{never}
 
 -- a solution of elements
 twenty-passes : (o : Order) (p : Place) (x : List ℕ) → Below (fieldOf (o .field) .q) x → no20 o p x ≡ passed
-unfolding no20 liftRefused tooLarge
-twenty-passes o (At (Mix j k)) x b = refl
-twenty-passes o (At (Check j)) x b = refl
-twenty-passes o (At (Scale j)) x b = refl
-twenty-passes o (At (Clear j k)) x b = refl
-twenty-passes o (At (Open j)) x b = refl
-twenty-passes o (At (Lift j)) x b = unmet 20 _ (lt-leb (fieldOf (o .field) .q) (getD x (j - 1) 0) (b .at (j - 1)))
-twenty-passes o (Stopped j) x b = refl
-twenty-passes o Done x b = refl
+twenty-passes o p x b =
+    ⊎-elim (λ (l : (j : ℕ) × (p ≡ At (Lift j))). rw (l .1) (lift-passes o (l .0) x (b .at (l .0 - 1)))) (λ e. e) (lift-or-not o p x)
 
 elements : fieldOf 256 .q ≡ 256
 unfolding fieldOf F256

@@ -9,9 +9,9 @@ use native.Mathlib.Omega.{arith}
 use lib.Dec.{ltb}
 use lib.ListN.{length, take, getD}
 use Rattle.sharing.specs.Bounds.{mostRows}
-use Rattle.course.specs.declared.Step.the-variants.{Mix, Check, Scale, Clear, Open, Lift}
+use Rattle.course.specs.declared.Step.the-variants.{Lift}
 use Rattle.course.specs.declared.Place.{Place}
-use Rattle.course.specs.declared.Place.the-variants.{At, Stopped, Done}
+use Rattle.course.specs.declared.Place.the-variants.{At}
 use Rattle.course.specs.declared.Order.{Order}
 use Rattle.course.specs.declared.Progress.{Progress}
 use Rattle.course.specs.StepList.{fullMask, fullNonzero}
@@ -22,6 +22,7 @@ use Rattle.verdict.specs.Told.{Told, passed, refused, Line, refuse, _or_}
 use Rattle.verdict.specs.Refusals.{differs, outside, anyPlace, tooLarge, zeroDraw, no1, no2, no3, no4, no5, no6, no7, no8, no9, no14, no15, numbers, buffers}
 use Rattle.solver.specs.Refusals.{wholeTable, tableRows, valueRows, placed, ended, entries, dealDraws, maskAt, nonzeroAt, revealedAt, zeroPivot, no10, no11, liftRefused, no20, no12, no19, sizes, dealOrder, gatherOrder, tapes, solveOrder, standing, wantedOrder, placing, lending, stepOrder}
 use Rattle.solver.specs.Calls.{order}
+use Rattle.solver.proofs.Ready.{lift-or-not}
 use Rattle.plain.specs.Calls.{plainOrder}
 use Rattle.exchange.specs.Record.{rows, tableLength, recordLength, lengthAt, endAt, ends, no16, unsuited, fieldAt, stretch, framed, systemIn, holding}
 use Rattle.exchange.specs.Calls.{writeOrder, no18, readOrder}
@@ -38,9 +39,6 @@ record Numbered (k : ℕ) (v : Told) : Type 0 where
 numbered : (k : ℕ) (test : Bool) (d : List ℕ) → Numbered k (refuse k test d)
 numbered k true d = record { number = λ l e. cc }
 numbered k false d = record { number = λ l e. absurd (no-refusal e) }
-
-none : {k : ℕ} → Numbered k passed
-none = record { number = λ l e. absurd (no-refusal e) }
 
 one : (f : ℕ) → Numbered 1 (no1 f)
 unfolding no1
@@ -96,14 +94,10 @@ twelve o p t = numbered 12 (zeroPivot o (revealedAt p) t) _
 
 twenty : (o : Order) (p : Place) (x : List ℕ) → Numbered 20 (no20 o p x)
 unfolding no20 liftRefused
-twenty o (At (Mix j k)) x = none
-twenty o (At (Check j)) x = none
-twenty o (At (Scale j)) x = none
-twenty o (At (Clear j k)) x = none
-twenty o (At (Open j)) x = none
-twenty o (At (Lift j)) x = numbered 20 (tooLarge (o .field) (getD x (j - 1) 0)) _
-twenty o (Stopped j) x = none
-twenty o Done x = none
+twenty o p x =
+    ⊎-elim (λ (l : (j : ℕ) × (p ≡ At (Lift j))). rw (l .1) (numbered 20 (tooLarge (o .field) (getD x (l .0 - 1) 0)) _))
+    (λ (e : no20 o p x ≡ passed). rw e (record { number = λ l g. absurd (no-refusal g) }))
+    (lift-or-not o p x)
 
 fourteen : (wanted long : ℕ) → Numbered 14 (no14 wanted long)
 unfolding no14

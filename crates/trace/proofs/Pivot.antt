@@ -6,7 +6,7 @@ use mathlib.Core.List.{List}
 use mathlib.Core.Path.{_≡_, refl}
 use Prim.Native.Nat.{ℕ, _+_, _-_, _<_}
 use native.Mathlib.Omega.{arith}
-use lib.Dec.{eqb, ltb, leb}
+use lib.Dec.{eqb, ltb}
 use lib.ListN.{length, getD, set}
 use lib.Seq.{getD-set-same}
 use borrow.Author.Tests.{lt-leb}
@@ -66,6 +66,10 @@ module _ (o : Order) (some : 0 < o .shares) (ds nz : List ℕ) (h : Held) (whole
 abbrev pub Fair : Order → List ℕ → Place → Type 0
 Fair o x p = no20 o p x ≡ passed
 
+pub lift-passes : (o : Order) (j : ℕ) (x : List ℕ) → getD x (j - 1) 0 < fieldOf (o .field) .q → Fair o x (At (Lift j))
+unfolding no20 liftRefused tooLarge
+lift-passes o j x l = unmet 20 _ (lt-leb (fieldOf (o .field) .q) (getD x (j - 1) 0) l)
+
 pub fair-first : (o : Order) (x : List ℕ) (j : ℕ) → Fair o x (firstOf (o .size) j)
 unfolding firstOf no20 liftRefused
 fair-first o x j = either (Fair o x) (ltb j (o .size)) refl refl
@@ -80,7 +84,7 @@ module _ (o : Order) (ds : List ℕ) (h : Held) (places : length (h .solution) �
   element j = sum-lt (fieldOf (o .field)) (field-of (o .field) .ring) _
 
   pub fair-after : (s : Step) → inList (o .size) s ≡ true → Fair o (left s) (following (o .size) s (opened o s ds h))
-  unfolding following revealedBy no20 liftRefused tooLarge
+  unfolding following revealedBy no20 liftRefused
   fair-after (Mix j k) i = either (Fair o (left (Mix j k))) (ltb k (o .size)) refl refl
   fair-after (Check j) i = either (Fair o (left (Check j))) (eqb (opened o (Check j) ds h) 1) refl refl
   fair-after (Scale j) i = either (Fair o (left (Scale j))) (ltb j (o .size)) refl refl
@@ -89,7 +93,5 @@ module _ (o : Order) (ds : List ℕ) (h : Held) (places : length (h .solution) �
       let w = within (o .size) (Open j) i in
       let x = opened o (Open j) ds h in
       let byte : getD (set (h .solution) (j - 1) x) (j - 1) 0 ≡ x = getD-set-same (h .solution) (j - 1) x 0 (omega (arith, places, w .0)) in
-      let small : leb (fieldOf (o .field) .q) (getD (set (h .solution) (j - 1) x) (j - 1) 0) ≡ false =
-      rw byte (lt-leb (fieldOf (o .field) .q) x (element j)) in
-      either (Fair o (left (Open j))) (ltb 1 j) (unmet 20 _ small) refl
+      either (Fair o (left (Open j))) (ltb 1 j) (lift-passes o j (left (Open j)) (rw byte (element j))) refl
   fair-after (Lift j) i = refl
