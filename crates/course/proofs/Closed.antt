@@ -19,7 +19,7 @@ use Rattle.course.specs.declared.Step.the-variants.{Mix, Check, Scale, C
 use Rattle.course.specs.declared.Place.{Place}
 use Rattle.course.specs.declared.Place.the-variants.{At, Stopped, Done}
 use Rattle.course.specs.declared.Order.{Order}
-use Rattle.course.specs.StepList.{Sizes, each, column, columns, openings, stepList, upTo, inList, costOf, maskCost, nonzeroCost, sumOver}
+use Rattle.course.specs.StepList.{Sizes, each, column, columns, openings, stepList, upTo, inList, costOf, costIn, maskCost, nonzeroCost, sumOver}
 use Rattle.course.specs.Taken.{beforeStep, stepsBefore, takenAt}
 use Rattle.course.specs.Code.Closed.{flagsOver, rowsOver, partAt, partOf, Stands, Kept, weighed, maskOf, nonzeroOf}
 use Rattle.course.proofs.Within.{within, in-list}
@@ -114,19 +114,19 @@ module _ (o : Order) where
 
   -- the Mixes of a column whose rows have L columns from it on
   mixes-sum : (j L n : ℕ) → o .size + 2 - j ≡ L → mask (each (Mix j) (j + 1) n) ≡ n * (F + L * N)
-  unfolding costOf mixCost
+  unfolding costOf costIn mixCost
   mixes-sum j L n e = each-sum (maskCost o) (Mix j) (F + L * N) (λ k. let z : o .size + 1 + 1 - j ≡ L = omega arith in rw z) n (j + 1)
 
   clears-sum : (j L n : ℕ) → o .size + 2 - j ≡ L → mask (each (Clear j) (j + 1) n) ≡ n * (L * N)
-  unfolding costOf clearCost
+  unfolding costOf costIn clearCost
   clears-sum j L n e = each-sum (maskCost o) (Clear j) (L * N) (λ k. let z : o .size + 1 + 1 - j ≡ L = omega arith in rw z) n (j + 1)
 
   check-is : (j : ℕ) → maskCost o (Check j) ≡ F + N
-  unfolding costOf checkCost
+  unfolding costOf costIn checkCost
   check-is j = refl
 
   scale-is : (j L : ℕ) → o .size + 2 - j ≡ L → maskCost o (Scale j) ≡ I + 2 * N * L
-  unfolding costOf scaleCost
+  unfolding costOf costIn scaleCost
   scale-is j L e =
       let z : o .size + 1 + 1 - j ≡ L = omega arith in
       let p : o .shares * (o .shares - 1) ≡ 2 * N = omega (arith, pairs-double (o .shares)) in
@@ -239,11 +239,11 @@ module _ (o : Order) where
   opens z l d more h e = beyond z 1 (o .size) 0 more l (omega arith) (omega arith) (h ∙ omega (arith, ap (λ k. k * N) e))
 
   first-opens : (d : ℕ) → d < o .size → mask (take (2 * d) (openings (o .size))) ≡ d * N
-  unfolding costOf openCost
+  unfolding costOf costIn openCost
   first-opens d l = before-open (maskCost o) N (λ k. refl) (λ k. refl) d (o .size) l
 
   one-more : (d : ℕ) → d < o .size → mask (take (2 * d + 1) (openings (o .size))) ≡ (d + 1) * N
-  unfolding costOf openCost
+  unfolding costOf costIn openCost
   one-more d l = before-lift (maskCost o) N (λ k. refl) (λ k. refl) d (o .size) l
 
   spread : (n L : ℕ) → n * (F + L * N) ≡ F * n + N * (n * L)
@@ -291,12 +291,12 @@ module _ (o : Order) where
   columns-nonzeros c l = omega (arith, sum-append (nonzeroCost o) (columns (o .size) 1 c) l, columns-nonzero o (o .size) 1 c)
 
   up-to-nonzero : (j : ℕ) → nonzero (upTo (o .size) j) ≡ (j - 1) * (o .shares - 1)
-  unfolding upTo sumOver costOf
+  unfolding upTo sumOver costOf costIn
   up-to-nonzero j =
       omega (arith, columns-nonzeros (j - 1) (each (Mix j) (j + 1) (o .size - j) ++ (Check j ∷ [])), sum-append (nonzeroCost o) (each (Mix j) (j + 1) (o .size - j)) (Check j ∷ []), each-none o (Mix j) (λ k. refl) (j + 1) (o .size - j))
 
   step-nonzero : (s : Step) → inList (o .size) s ≡ true → nonzero (beforeStep (o .size) s) ≡ nonzeroOf (o .shares) w (partAt w s)
-  unfolding beforeStep partAt nonzeroOf sumOver costOf scaleNonzero
+  unfolding beforeStep partAt nonzeroOf sumOver costOf costIn scaleNonzero
   step-nonzero (Mix j k) h =
       let u = within (o .size) (Mix j k) h in
       let x : w - (w + 1 - j) ≡ j - 1 = omega arith in

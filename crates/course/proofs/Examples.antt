@@ -13,7 +13,7 @@ use Rattle.course.specs.declared.Place.the-variants.{At, Stopped, Done}
 use Rattle.course.specs.declared.Draws.{Draws}
 use Rattle.course.specs.declared.Order.{Order}
 use Rattle.course.specs.declared.Counts.{Counts}
-use Rattle.course.specs.StepList.{each, column, columns, openings, stepList, upTo, inList, draws, costOf, sumOver, sums}
+use Rattle.course.specs.StepList.{each, column, columns, openings, stepList, upTo, inList, draws, costOf, costIn, sumOver, sums}
 use Rattle.course.specs.Taken.{beforeStep, stepsBefore, takenAt}
 use Rattle.course.specs.Next.{recordAt, counted}
 use Rattle.sharing.specs.Rules.{inversionDraws}
@@ -35,13 +35,13 @@ counts k a b = record { steps = k; mask = a; nonzero = b }
 -- two and of 96 equations, which R-7 overrules
 pub figures : full 16 2 1 ∷ full 16 2 2 ∷ stopped 16 2 2 2 ∷ stopped 16 2 2 1 ∷ full 16 3 1 ∷ full 256 2 1 ∷ full 256 4 96 ∷ []
     ≡ counts 3 12 1 ∷ counts 9 36 2 ∷ counts 5 28 1 ∷ counts 2 12 0 ∷ counts 3 37 2 ∷ counts 3 14 1 ∷ counts 9503 3820512 288 ∷ []
-unfolding folds foldDraws inversionDraws mixCost checkCost scaleCost scaleNonzero clearCost openCost each column columns openings stepList upTo costOf sumOver sums
+unfolding folds foldDraws inversionDraws mixCost checkCost scaleCost scaleNonzero clearCost openCost each column columns openings stepList upTo costOf costIn sumOver sums
 figures = refl
 
 -- R-6's
 pub figures-by-pairs : full 16 3 2 ∷ stopped 16 3 2 1 ∷ stopped 16 3 2 2 ∷ full 256 3 1 ∷ full 16 4 1 ∷ full 256 4 1 ∷ []
     ≡ counts 9 110 4 ∷ counts 2 36 0 ∷ counts 5 85 2 ∷ counts 3 43 2 ∷ counts 3 75 3 ∷ counts 3 87 3 ∷ []
-unfolding folds foldDraws inversionDraws mixCost checkCost scaleCost scaleNonzero clearCost openCost each column columns openings stepList upTo costOf sumOver sums
+unfolding folds foldDraws inversionDraws mixCost checkCost scaleCost scaleNonzero clearCost openCost each column columns openings stepList upTo costOf costIn sumOver sums
 figures-by-pairs = refl
 
 -- R-7's: m²+3m-1 steps, and a Lift(j) for j = 2..m
@@ -62,12 +62,12 @@ places f =
 
 pub taken-16 : places (takenAt (order 16 2 2))
     ≡ draws 0 0 ∷ draws 7 0 ∷ draws 12 0 ∷ draws 20 1 ∷ draws 23 1 ∷ draws 28 1 ∷ draws 34 2 ∷ draws 35 2 ∷ draws 35 2 ∷ draws 36 2 ∷ draws 12 0 ∷ draws 28 1 ∷ []
-unfolding folds foldDraws inversionDraws mixCost checkCost scaleCost scaleNonzero clearCost openCost each column columns openings stepList upTo costOf sumOver beforeStep stepsBefore takenAt
+unfolding folds foldDraws inversionDraws mixCost checkCost scaleCost scaleNonzero clearCost openCost each column columns openings stepList upTo costOf costIn sumOver beforeStep stepsBefore takenAt
 taken-16 = refl
 
 pub taken-256 : places (takenAt (order 256 3 2))
     ≡ draws 0 0 ∷ draws 27 0 ∷ draws 48 0 ∷ draws 73 2 ∷ draws 82 2 ∷ draws 103 2 ∷ draws 122 4 ∷ draws 125 4 ∷ draws 125 4 ∷ draws 128 4 ∷ draws 48 0 ∷ draws 103 2 ∷ []
-unfolding folds foldDraws inversionDraws mixCost checkCost scaleCost scaleNonzero clearCost openCost each column columns openings stepList upTo costOf sumOver beforeStep stepsBefore takenAt
+unfolding folds foldDraws inversionDraws mixCost checkCost scaleCost scaleNonzero clearCost openCost each column columns openings stepList upTo costOf costIn sumOver beforeStep stepsBefore takenAt
 taken-256 = refl
 
 abbrev matches : Place → ℕ → ℕ → Bool
@@ -75,5 +75,5 @@ matches place mask nonzero = counted (recordAt (order 16 2 2) place mask nonzero
 
 pub matched : matches (At (Check 1)) 7 0 ∷ matches (At (Check 1)) 7 1 ∷ matches Done 35 2 ∷ matches Done 36 2 ∷ matches (Stopped 2) 23 1 ∷ matches (Stopped 2) 28 1 ∷ []
     ≡ true ∷ false ∷ false ∷ true ∷ false ∷ true ∷ []
-unfolding folds foldDraws inversionDraws mixCost checkCost scaleCost scaleNonzero clearCost openCost each column columns openings stepList upTo costOf sumOver beforeStep stepsBefore takenAt counted
+unfolding folds foldDraws inversionDraws mixCost checkCost scaleCost scaleNonzero clearCost openCost each column columns openings stepList upTo costOf costIn sumOver beforeStep stepsBefore takenAt counted
 matched = refl

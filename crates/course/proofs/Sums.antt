@@ -7,20 +7,31 @@ use Prim.Native.Nat.{ℕ, zero, suc, _≤_, _+_, _-_, _*_}
 use native.Mathlib.Omega.{arith}
 use native.Mathlib.Nat.{suc-mul, mul-suc, mul-add, mul-le-mul, mul-le-mul-right}
 use lib.ListN.{length, length-append}
-use Rattle.sharing.specs.Bounds.{mostRows, mostSteps, mostDraws}
+use Rattle.sharing.specs.Bounds.{mostRows, mostWidth, mostSteps, mostDraws}
 use Rattle.table.proofs.CostBounds.{mix-few, check-few, scale-few, clear-few, open-few}
+use Rattle.table.specs.Layout.{columnsFrom}
 use Rattle.table.specs.Costs.{scaleNonzero}
 use Rattle.course.specs.declared.Step.{Step}
 use Rattle.course.specs.declared.Step.the-variants.{Mix, Check, Scale, Clear, Open, Lift}
 use Rattle.course.specs.declared.Order.{Order}
-use Rattle.course.specs.StepList.{Sizes, each, column, columns, openings, stepList, inList, columnsAt, costOf, maskCost, nonzeroCost, sumOver, fullMask, fullNonzero}
-use Rattle.course.proofs.Within.{within}
+use Rattle.course.specs.StepList.{Sizes, each, column, columns, openings, stepList, inList, columnOf, costOf, costIn, maskCost, nonzeroCost, sumOver, fullMask, fullNonzero}
+use Rattle.course.proofs.Within.{within, column-in}
 use Rattle.course.proofs.Members.{AllIn, all-in}
 
 pub sum-append : (f : Step → ℕ) (a b : List Step) → sumOver f (a ++ b) ≡ sumOver f a + sumOver f b
 unfolding sumOver
 sum-append f [] b = omega arith
 sum-append f (s ∷ a) b = omega (arith, sum-append f a b)
+
+-- no step takes many
+pub cost-few : (f n w : ℕ) → n ≤ 4 → w ≤ mostWidth → (s : Step) → 1 ≤ columnOf s → costIn f n w s .mask ≤ mostDraws
+unfolding costIn
+cost-few f n w h g (Mix j k) a = mix-few f n (columnsFrom w j) h (omega arith)
+cost-few f n w h g (Check j) a = check-few f n h
+cost-few f n w h g (Scale j) a = scale-few n (columnsFrom w j) h (omega arith)
+cost-few f n w h g (Clear j k) a = omega (arith, clear-few n (columnsFrom w j) h (omega arith))
+cost-few f n w h g (Open j) a = open-few n h
+cost-few f n w h g (Lift j) a = omega arith
 
 -- the length
 
@@ -71,13 +82,13 @@ module _ (o : Order) where
   each-none f h a (suc n) = omega (arith, h a, each-none f h (a + 1) n)
 
   openings-none : (n : ℕ) → sumOver (nonzeroCost o) (openings n) ≡ 0
-  unfolding openings sumOver costOf
+  unfolding openings sumOver costOf costIn
   openings-none zero = refl
   openings-none (suc zero) = refl
   openings-none (suc (suc n)) = omega (arith, openings-none (suc n))
 
   column-nonzero : (m j : ℕ) → sumOver (nonzeroCost o) (column m j) ≡ o .shares - 1
-  unfolding column sumOver costOf scaleNonzero
+  unfolding column sumOver costOf costIn scaleNonzero
   column-nonzero m j =
       rw (sum-append (nonzeroCost o) (each (Mix j) (j + 1) (m - j)) (Check j ∷ Scale j ∷ each (Clear j) (j + 1) (m - j)))
       (omega (arith, each-none (Mix j) (λ k. refl) (j + 1) (m - j), each-none (Clear j) (λ k. refl) (j + 1) (m - j)))
@@ -102,14 +113,9 @@ module _ (o : Order) where
 
   pub cost-small : Sizes o → (s : Step) → inList (o .size) s ≡ true → maskCost o s ≤ mostDraws
   unfolding costOf
-  cost-small z (Mix j k) h = let w = within (o .size) (Mix j k) h in mix-few (o .field) (o .shares) (columnsAt o j) (z .four) (omega arith)
-  cost-small z (Check j) h = check-few (o .field) (o .shares) (z .four)
-  cost-small z (Scale j) h = let w = within (o .size) (Scale j) h in scale-few (o .shares) (columnsAt o j) (z .four) (omega arith)
-  cost-small z (Clear j k) h =
-      let w = within (o .size) (Clear j k) h in
-      omega (arith, clear-few (o .shares) (columnsAt o j) (z .four) (omega arith))
-  cost-small z (Open j) h = omega (arith, open-few (o .shares) (z .four))
-  cost-small z (Lift j) h = omega arith
+  cost-small z s h =
+      let w = column-in (o .size) s (within (o .size) s h) in
+      cost-few (o .field) (o .shares) (o .size + 1) (z .four) (omega (arith, z .most)) s (w .0)
 
   sum-small : Sizes o → (l : List Step) → AllIn (o .size) l → sumOver (maskCost o) l ≤ length l * mostDraws
   unfolding sumOver

@@ -3,11 +3,12 @@
 use mathlib.Core.Bool.{Bool, true, false, _&&_, false≢true}
 use mathlib.Core.Path.{_≡_, refl}
 use Prim.Native.Nat.{ℕ, _<_, _≤_}
+use native.Mathlib.Omega.{arith}
 use lib.Dec.{ltb, leb}
 use borrow.Author.Tests.{ltb-true, leb-true, lt-ltb, le-leb}
 use Rattle.course.specs.declared.Step.{Step}
 use Rattle.course.specs.declared.Step.the-variants.{Mix, Check, Scale, Clear, Open, Lift}
-use Rattle.course.specs.StepList.{inList}
+use Rattle.course.specs.StepList.{inList, columnOf}
 
 abbrev pub Within : ℕ → Step → Type 0
 Within m (Mix j k) = (1 ≤ j) × (j < k) × (k ≤ m)
@@ -55,3 +56,12 @@ in-list m (Scale j) w = column-so 1 m j w
 in-list m (Clear j k) w = rows-so m j k w
 in-list m (Open j) w = column-so 1 m j w
 in-list m (Lift j) w = column-so 2 m j w
+
+-- the column of a step of the list
+pub column-in : (m : ℕ) (s : Step) → Within m s → (1 ≤ columnOf s) × (columnOf s ≤ m)
+column-in m (Mix j k) w = (w .0, omega arith)
+column-in m (Check j) w = w
+column-in m (Scale j) w = w
+column-in m (Clear j k) w = (w .0, omega arith)
+column-in m (Open j) w = w
+column-in m (Lift j) w = (omega arith, w .1)

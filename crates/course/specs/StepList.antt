@@ -66,21 +66,30 @@ inList m (Clear j k) = leb 1 j && (ltb j k && leb k m)
 inList m (Open j) = leb 1 j && leb j m
 inList m (Lift j) = leb 2 j && leb j m
 
--- L = m+2-j, in a row of m+1 columns
-abbrev pub columnsAt : Order → ℕ → ℕ
-columnsAt o j = columnsFrom (o .size + 1) j
+-- the j of a step: the column that it works in
+abbrev pub columnOf : Step → ℕ
+columnOf (Mix j k) = j
+columnOf (Check j) = j
+columnOf (Scale j) = j
+columnOf (Clear j k) = j
+columnOf (Open j) = j
+columnOf (Lift j) = j
 
 abbrev pub draws : ℕ → ℕ → Draws
 draws mask nonzero = record { mask = mask; nonzero = nonzero }
 
--- a step's mask draws and its nonzero draws; Lift has none
+-- a step's mask draws and its nonzero draws, in field f, with n shares and rows of w columns; Lift has none
+unfoldable pub costIn : ℕ → ℕ → ℕ → Step → Draws
+costIn f n w (Mix j k) = draws (mixCost f n (columnsFrom w j)) 0
+costIn f n w (Check j) = draws (checkCost f n) 0
+costIn f n w (Scale j) = draws (scaleCost n (columnsFrom w j)) (scaleNonzero n)
+costIn f n w (Clear j k) = draws (clearCost n (columnsFrom w j)) 0
+costIn f n w (Open j) = draws (openCost n) 0
+costIn f n w (Lift j) = draws 0 0
+
+-- in a square system a row has m+1 columns: L = m+2-j
 unfoldable pub costOf : Order → Step → Draws
-costOf o (Mix j k) = draws (mixCost (o .field) (o .shares) (columnsAt o j)) 0
-costOf o (Check j) = draws (checkCost (o .field) (o .shares)) 0
-costOf o (Scale j) = draws (scaleCost (o .shares) (columnsAt o j)) (scaleNonzero (o .shares))
-costOf o (Clear j k) = draws (clearCost (o .shares) (columnsAt o j)) 0
-costOf o (Open j) = draws (openCost (o .shares)) 0
-costOf o (Lift j) = draws 0 0
+costOf o s = costIn (o .field) (o .shares) (o .size + 1) s
 
 abbrev pub maskCost : Order → Step → ℕ
 maskCost o s = costOf o s .mask

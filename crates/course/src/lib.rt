@@ -5,7 +5,7 @@ ghost use mathlib.Core.Bool.{_&&_, _||_};
 ghost use Prim.Native.Nat.{_+_, _*_, _≤_};
 ghost use lib.Dec.{eqb, leb};
 ghost use Rattle.sharing.specs.Bounds.{mostRows, mostWidth};
-ghost use Rattle.course.specs.StepList.{Sizes, sized, inList, costOf, stepList, sums};
+ghost use Rattle.course.specs.StepList.{Sizes, sized, inList, columnOf, costIn, costOf, stepList, sums};
 ghost use Rattle.course.specs.Next.{firstOf, following, orderOf, fits, nextOf, startOf};
 ghost use Rattle.course.specs.Code.Closed.{flagsOver, rowsOver, partAt, partOf, Stands, Kept, weighed, maskOf, agrees};
 
@@ -227,15 +227,26 @@ impl Progress {
     }
 }
 
-// The draws of a step of the list.
-pub fn cost(o: Order, s: Step) -> Draws
-    requires { ⌜ Sizes o ⌝ }
-    requires { ⌜ inList (o .size) s ≡ true ⌝ }
-    ensures { λ r. ⌜ r ≡ costOf o s ⌝ }
+// The j of a step.
+pub fn column_of(s: Step) -> u64
+    ensures { λ r. ⌜ r ≡ columnOf s ⌝ }
 {
-    let f = o.field;
-    let n = o.shares as usize;
-    let w = o.size as usize + 1;
+    match s {
+        Step::Mix { j, k: _ } => j,
+        Step::Check(j) => j,
+        Step::Scale(j) => j,
+        Step::Clear { j, k: _ } => j,
+        Step::Open(j) => j,
+        Step::Lift(j) => j,
+    }
+}
+
+// The draws of a step, on rows of w columns.
+pub fn cost_in(f: u64, n: usize, w: usize, s: Step) -> Draws
+    requires { ⌜ (2 ≤ n) × (n ≤ 4) × (w ≤ mostWidth) ⌝ }
+    requires { ⌜ (1 ≤ columnOf s) × (columnOf s ≤ w) ⌝ }
+    ensures { λ r. ⌜ r ≡ costIn f n w s ⌝ }
+{
     match s {
         Step::Mix { j, k: _ } => Draws {
             mask: table::mix_cost(f, n, w + 1 - j as usize),
@@ -265,6 +276,15 @@ pub fn cost(o: Order, s: Step) -> Draws
             nonzero: 0,
         },
     }
+}
+
+// The draws of a step of the list.
+pub fn cost(o: Order, s: Step) -> Draws
+    requires { ⌜ Sizes o ⌝ }
+    requires { ⌜ inList (o .size) s ≡ true ⌝ }
+    ensures { λ r. ⌜ r ≡ costOf o s ⌝ }
+{
+    cost_in(o.field, o.shares as usize, o.size as usize + 1, s)
 }
 
 // The draws taken at a place, with no walk over the list: refusal 19 asks for them in every step call. What a place has taken beside the columns

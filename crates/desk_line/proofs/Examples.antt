@@ -5,7 +5,7 @@ use mathlib.Core.Path.{_≡_, refl}
 use Prim.Native.Nat.{ℕ}
 use Prim.Native.String.{String}
 use Rattle.table.specs.Costs.{mixCost, checkCost, scaleCost, scaleNonzero, clearCost, openCost}
-use Rattle.course.specs.StepList.{each, column, columns, openings, stepList, costOf, sumOver, sums}
+use Rattle.course.specs.StepList.{each, column, columns, openings, stepList, costOf, costIn, sumOver, sums}
 use Rattle.verdict.specs.Told.{_or_}
 use Rattle.verdict.specs.Refusals.{outside, no1, no2, no3, numbers}
 use Rattle.verdict.specs.Calls.{call}
@@ -49,5 +49,5 @@ rows =
     ∷ []
 
 pub examples : map (λ (r : Row). deskLine (r .input)) rows ≡ map (λ (r : Row). ascii (r .line)) rows
-unfolding rows ascii spelled decimal refusedLine countsLine deskLine call countsCall outside no1 no2 no3 numbers _or_ folds foldDraws inversionDraws mixCost checkCost scaleCost scaleNonzero clearCost openCost each column columns openings stepList costOf sumOver sums
+unfolding rows ascii spelled decimal refusedLine countsLine deskLine call countsCall outside no1 no2 no3 numbers _or_ folds foldDraws inversionDraws mixCost checkCost scaleCost scaleNonzero clearCost openCost each column columns openings stepList costOf costIn sumOver sums
 examples = refl

@@ -1,4 +1,4 @@
--- What each step of the list does to the values is what algebra says of it, whatever the shares and the draws are.
+-- What each step does to the values is what algebra says of it, whatever the shares and the draws are.
 -- Assumes nothing.
 use mathlib.Core.Path.{_≡_, ap, _∙_}
 use Prim.Native.Nat.{ℕ, _+_, _-_, _<_}
@@ -24,72 +24,52 @@ pub value-lt : (o : Order) (t : List ℕ) (r c : ℕ) → valueOf o t r c < fiel
 unfolding valueOf
 value-lt o t r c = sum-lt (fieldOf (o .field)) (field-of (o .field) .ring) _
 
-module _ (o : Order) (some : 0 < o .shares) (t : List ℕ) (lt : length t ≡ tableBytes (o .shares) (o .size) (o .size + 1)) where
-  abbrev f : ℕ
-  f = o .field
+-- field f, n shares, and rows of w columns
+module _ (f n rows w : ℕ) (some : 0 < n) (t : List ℕ) (lt : length t ≡ tableBytes n rows w) where
+  abbrev val : List ℕ → ℕ → ℕ → ℕ
+  val = value (fieldOf f) n w
 
-  abbrev n : ℕ
-  n = o .shares
-
-  abbrev m : ℕ
-  m = o .size
-
-  abbrev w : ℕ
-  w = o .size + 1
-
-  abbrev val : ℕ → ℕ → ℕ
-  val = valueOf o t
-
-  abbrev At : ℕ → ℕ → Type 0
-  At r c = Inside m w r c
-
-  place : {r c : ℕ} → In m w r c → At r c
+  place : {r c : ℕ} → In rows w r c → Inside rows w r c
   place P = record { row-low = P .0; row-high = P .1; column-low = P .2; column-high = P .3 }
 
-  kept : (t′ : List ℕ) (s d : ℕ) → entry n w s d t′ ≡ entry n w s d t → valueOf o t′ s d ≡ val s d
-  unfolding valueOf value
+  kept : (t′ : List ℕ) (s d : ℕ) → entry n w s d t′ ≡ entry n w s d t → val t′ s d ≡ val t s d
   kept t′ s d e = kept-value (fieldOf f) n w t t′ s d e
 
-  module _ {j : ℕ} (P : At j j) where
-    pub mix-link : {k : ℕ} → At k j → (ds : List ℕ) → Mixes m w (fieldOf f) j j k val (valueOf o (mix f n w j j k ds t))
-    unfolding valueOf value
+  -- row r takes column j's pivot
+  module _ {r j : ℕ} (P : Inside rows w r j) where
+    pub mix-link : {k : ℕ} → Inside rows w k j → (ds : List ℕ) → Mixes rows w (fieldOf f) r j k (val t) (val (mix f n w r j k ds t))
     mix-link {k} Q ds =
         record {
-          new = mix-value f n m w t lt some P Q ds;
-          kept = λ s d R h. kept (mix f n w j j k ds t) s d (mix-kept n m w t lt f P k ds (place R) h);
+          new = mix-value f n rows w t lt some P Q ds;
+          kept = λ s d R h. kept (mix f n w r j k ds t) s d (mix-kept n rows w t lt f P k ds (place R) h);
         }
 
-    pub check-link : (ds : List ℕ) → check f n w j j ds t ≡ flagOf (val j j)
-    unfolding valueOf value
-    check-link ds = check-value f n m w t lt some P ds
+    pub check-link : (ds : List ℕ) → check f n w r j ds t ≡ flagOf (val t r j)
+    check-link ds = check-value f n rows w t lt some P ds
 
     pub scale-link : (nz ds : List ℕ) → ((k : ℕ) → k < n - 1 → drawAt (fieldOf f) nz k ≡ 0 → ⊥)
-        → Scales m w (fieldOf f) j j val (valueOf o (scale f n w j j nz ds t))
-    unfolding valueOf value
+        → Scales rows w (fieldOf f) r j (val t) (val (scale f n w r j nz ds t))
     scale-link nz ds nonzero =
         record {
-          new = scale-value f n m w t lt P nz ds nonzero some;
-          kept = λ s d R h. kept (scale f n w j j nz ds t) s d (scale-kept n m w t lt f P nz ds (place R) h);
+          new = scale-value f n rows w t lt P nz ds nonzero some;
+          kept = λ s d R h. kept (scale f n w r j nz ds t) s d (scale-kept n rows w t lt f P nz ds (place R) h);
         }
 
-    pub clear-link : {k : ℕ} → At k j → (ds : List ℕ) → Clears m w (fieldOf f) j j k val (valueOf o (clear f n w j j k ds t))
-    unfolding valueOf value
+    pub clear-link : {k : ℕ} → Inside rows w k j → (ds : List ℕ) → Clears rows w (fieldOf f) r j k (val t) (val (clear f n w r j k ds t))
     clear-link {k} Q ds =
         record {
-          new = clear-value f n m w t lt Q P ds;
-          kept = λ s d R h. kept (clear f n w j j k ds t) s d (clear-kept n m w t lt f Q j ds (place R) h);
+          new = clear-value f n rows w t lt Q P ds;
+          kept = λ s d R h. kept (clear f n w r j k ds t) s d (clear-kept n rows w t lt f Q r ds (place R) h);
         }
 
     -- what Open opens is the value of its row's last entry
-    pub opens-link : (ds : List ℕ) → unknownAt f n w j ds t ≡ val j w
-    unfolding valueOf value
-    opens-link ds = opens-value f n m w t lt j ds
+    pub opens-link : (ds : List ℕ) → unknownAt f n w r ds t ≡ val t r w
+    opens-link ds = opens-value f n rows w t lt r ds
 
-    pub lift-link : (x : ℕ) → Lifts m w (fieldOf f) j j x val (valueOf o (lift f n w j j x t))
-    unfolding valueOf value
+    pub lift-link : (x : ℕ) → Lifts rows w (fieldOf f) r j x (val t) (val (lift f n w r j x t))
     lift-link x =
         record {
           new = λ s a b.
-              lift-value f n m w t lt P x (record { row-low = a; row-high = omega arith; column-low = omega arith; column-high = omega arith }) b;
-          kept = λ s d R h. kept (lift f n w j j x t) s d (lift-kept n m w t lt f P x (place R) h);
+              lift-value f n rows w t lt P x (record { row-low = a; row-high = omega arith; column-low = omega arith; column-high = omega arith }) b;
+          kept = λ s d R h. kept (lift f n w r j x t) s d (lift-kept n rows w t lt f P x (place R) h);
         }

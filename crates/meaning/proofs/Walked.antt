@@ -14,14 +14,15 @@ use Rattle.field.specs.Field.{pick, draw, fieldOf}
 use Rattle.sharing.specs.Rules.{drawAt}
 use Rattle.table.specs.Costs.{scaleNonzero}
 use Rattle.table.specs.Layout.{tableBytes}
+use Rattle.table.specs.Values.{value}
 use Rattle.algebra.proofs.Column.{flag-yes, flag-no}
 use Rattle.course.specs.declared.Step.{Step}
 use Rattle.course.specs.declared.Step.the-variants.{Mix, Check, Scale, Clear, Open, Lift}
 use Rattle.course.specs.declared.Order.{Order}
-use Rattle.course.specs.StepList.{stepList, costOf, nonzeroCost, revealedBy, sumOver, fullNonzero}
+use Rattle.course.specs.StepList.{stepList, costOf, costIn, nonzeroCost, revealedBy, sumOver, fullNonzero}
 use Rattle.course.proofs.Within.{Within, within}
 use Rattle.course.proofs.Members.{AllIn, all-in}
-use Rattle.walk.specs.Act.{held, opened, acted}
+use Rattle.walk.specs.Act.{held, stepOpens, stepLeaves, opened, acted}
 use Rattle.walk.specs.Walk.{Tally, Course, running, stopped, openedAt, spent, then, walk, fresh}
 use Rattle.walk.proofs.Acted.{pivot, under, acted-sized, acted-places}
 use Rattle.walk.proofs.Walked.{settle, then-settled}
@@ -54,6 +55,9 @@ module _ (o : Order) (some : 0 < o .shares) (ms zs : List ℕ) (nonzero : NoZero
 
   abbrev f : ℕ
   f = o .field
+
+  abbrev n : ℕ
+  n = o .shares
 
   -- one step
 
@@ -92,12 +96,12 @@ module _ (o : Order) (some : 0 < o .shares) (ms zs : List ℕ) (nonzero : NoZero
 
   step-acts : (s : Step) (l : List Step) → Within m s → (t : Tally) → Sound o (s ∷ l) t
       → Acts (fieldOf f) m s (valuesOf o (running t)) (valuesOf o (settle (revealedBy s) (openedAt o ms zs s t) (spent o ms zs s t)))
-  unfolding acted opened revealedBy costOf scaleNonzero
+  unfolding acted opened stepLeaves stepOpens revealedBy costOf costIn scaleNonzero valueOf value
   step-acts (Mix j k) l u t g =
       P.mixed (value-lt o _)
-      (mix-link o some (t .left .table) (g .table) (pivot (u .0) (omega arith)) (under (u .0) (u .1) (u .2)) (drop (t .mask) ms))
+      (mix-link f n m (m + 1) some (t .left .table) (g .table) (pivot (u .0) (omega arith)) (under (u .0) (u .1) (u .2)) (drop (t .mask) ms))
   step-acts (Check j) l u t g =
-      let e = check-link o some (t .left .table) (g .table) (pivot (u .0) (u .1)) (drop (t .mask) ms) in
+      let e = check-link f n m (m + 1) some (t .left .table) (g .table) (pivot (u .0) (u .1)) (drop (t .mask) ms) in
       elim (ℕ-discrete (valueOf o (t .left .table) j j) 0) [
         | yes z ↦ rw (eq-eqb (openedAt o ms zs (Check j) t) 1 (e ∙ flag-yes z)) (P.halts z)
         | no n ↦
@@ -106,17 +110,17 @@ module _ (o : Order) (some : 0 < o .shares) (ms zs : List ℕ) (nonzero : NoZero
       ]
   step-acts (Scale j) l u t g =
       P.scaled (value-lt o _)
-      (scale-link o some (t .left .table) (g .table) (pivot (u .0) (u .1)) (drop (t .nonzero) zs) (drop (t .mask) ms) (drawn (Scale j) l t g))
+      (scale-link f n m (m + 1) some (t .left .table) (g .table) (pivot (u .0) (u .1)) (drop (t .nonzero) zs) (drop (t .mask) ms) (drawn (Scale j) l t g))
   step-acts (Clear j k) l u t g =
       P.cleared (value-lt o _)
-      (clear-link o some (t .left .table) (g .table) (pivot (u .0) (omega arith)) (under (u .0) (u .1) (u .2)) (drop (t .mask) ms))
+      (clear-link f n m (m + 1) some (t .left .table) (g .table) (pivot (u .0) (omega arith)) (under (u .0) (u .1) (u .2)) (drop (t .mask) ms))
   step-acts (Open j) l u t g =
       let x : ℕ = openedAt o ms zs (Open j) t in
       let e : x ≡ valueOf o (t .left .table) j (m + 1) =
-      opens-link o some (t .left .table) (g .table) (pivot (u .0) (u .1)) (drop (t .mask) ms) in
+      opens-link f n m (m + 1) some (t .left .table) (g .table) (pivot (u .0) (u .1)) (drop (t .mask) ms) in
       P.opened (getD-set-same (t .left .solution) (j - 1) x 0 (omega (arith, u .0, u .1, g .places)) ∙ e)
       (λ i a b. getD-set-other (t .left .solution) (j - 1) (i - 1) x 0 (omega (arith, u .0)))
-  step-acts (Lift j) l u t g = P.lifted (lift-link o some (t .left .table) (g .table) (pivot (omega arith) (u .1)) (getD (t .left .solution) (j - 1) 0))
+  step-acts (Lift j) l u t g = P.lifted (lift-link f n m (m + 1) some (t .left .table) (g .table) (pivot (omega arith) (u .1)) (getD (t .left .solution) (j - 1) 0))
 
   next-acts : (s : Step) (l : List Step) → Within m s → (c : Course) → SoundIn o (s ∷ l) c
       → Acts (fieldOf f) m s (valuesOf o c) (valuesOf o (then o ms zs s c))

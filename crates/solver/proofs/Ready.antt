@@ -25,7 +25,7 @@ use Rattle.course.specs.declared.Place.{Place}
 use Rattle.course.specs.declared.Place.the-variants.{At, Stopped, Done}
 use Rattle.course.specs.declared.Order.{Order}
 use Rattle.course.specs.declared.Progress.{Progress}
-use Rattle.course.specs.StepList.{Sizes, inList, costOf, maskCost, nonzeroCost, Pivot, revealedBy, fullMask, fullNonzero}
+use Rattle.course.specs.StepList.{Sizes, inList, costOf, costIn, maskCost, nonzeroCost, Pivot, revealedBy, fullMask, fullNonzero}
 use Rattle.course.specs.Next.{orderOf, counted}
 use Rattle.course.specs.Code.Closed.{partOf, Stands, agrees}
 use Rattle.course.proofs.Within.{within}
@@ -293,7 +293,7 @@ pivot-cell o j h = let w = within (o .size) (Scale j) h in pivot (w .0) (w .1)
 pub pivot-told : (o : Order) (j : ℕ) (t mask nonzero : List ℕ) → inList (o .size) (Scale j) ≡ true → length t ≡ wholeTable o
     → nonzeroCost o (Scale j) ≤ length nonzero → no9 (o .field) nonzero ≡ passed
     → eqb (blindedValue (fieldOf (o .field)) nonzero mask (entry (o .shares) (o .size + 1) j j t)) 0 ≡ zeroPivot o (Pivot j) t
-unfolding zeroPivot value costOf scaleNonzero
+unfolding zeroPivot value costOf costIn scaleNonzero
 pivot-told o j t mask nonzero listed whole long nines =
     both-zero _ _
     (zero-pivot (o .field) (o .shares) (o .size) (o .size + 1) t whole (pivot-cell o j listed) nonzero mask (λ k h. nine-says (o .field) nonzero nines k (omega arith)))

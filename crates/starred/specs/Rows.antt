@@ -14,9 +14,9 @@ use Rattle.table.specs.Steps.{overColumns, signed, joinTurn, joinRow, joinRows,
 use Rattle.table.specs.Costs.{mixCost, checkCost, scaleCost, scaleNonzero, clearCost, openCost}
 use Rattle.course.specs.declared.Order.{Order}
 use Rattle.course.specs.declared.Counts.{Counts}
-use Rattle.course.specs.StepList.{each, column, columns, openings, stepList, costOf, revealedBy, sumOver, sums}
+use Rattle.course.specs.StepList.{each, column, columns, openings, stepList, costOf, costIn, revealedBy, sumOver, sums}
 use Rattle.course.specs.Next.{firstOf, following}
-use Rattle.walk.specs.Act.{opened, acted}
+use Rattle.walk.specs.Act.{stepOpens, stepLeaves, opened, acted}
 use Rattle.walk.specs.Walk.{walk, conclude, solved}
 use Rattle.walk.specs.Dealing.{dealtEntry, dealTurn, dealt, gathered}
 
@@ -40,5 +40,5 @@ counted c = c .steps ∷ c .mask ∷ c .nonzero ∷ []
 
 -- says nothing itself: to unfold this name is to unfold all that its line names
 unfoldable pub definitions : Unit {0}
-unfolding F16 F256 fieldOf bits bitwise inv inverseBelow polynomialProduct times left run overPairs joined sum refreshTurn refresh productTurn productOver product andOf pairRefreshTurn pairRefresh opening folds foldDraws shifted freshShift fold lowBits zeroFlag scaled blindTurn blinded blindedValue factors inversionDraws cell part put overColumns signed joinTurn joinRow joinRows mix check scaleTurn scaleRow factorTurn scaleAll scale clear unknownAt liftTurn lift mixCost checkCost scaleCost scaleNonzero clearCost openCost each column columns openings stepList costOf revealedBy sumOver sums firstOf following opened acted walk conclude solved dealtEntry dealTurn dealt gathered
+unfolding F16 F256 fieldOf bits bitwise inv inverseBelow polynomialProduct times left run overPairs joined sum refreshTurn refresh productTurn productOver product andOf pairRefreshTurn pairRefresh opening folds foldDraws shifted freshShift fold lowBits zeroFlag scaled blindTurn blinded blindedValue factors inversionDraws cell part put overColumns signed joinTurn joinRow joinRows mix check scaleTurn scaleRow factorTurn scaleAll scale clear unknownAt liftTurn lift mixCost checkCost scaleCost scaleNonzero clearCost openCost each column columns openings stepList costOf costIn revealedBy sumOver sums firstOf following stepOpens stepLeaves opened acted walk conclude solved dealtEntry dealTurn dealt gathered
 definitions = tt

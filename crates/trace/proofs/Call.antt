@@ -14,7 +14,7 @@ use Rattle.course.specs.declared.Place.the-variants.{At, Stopped, Done}
 use Rattle.course.specs.declared.Order.{Order}
 use Rattle.course.specs.StepList.{revealedBy}
 use Rattle.course.specs.Next.{counted}
-use Rattle.walk.specs.Act.{Held, opened, written, acted}
+use Rattle.walk.specs.Act.{Held, stepLeaves, opened, written, acted}
 use Rattle.verdict.specs.Told.{Told, passed, refused, Line}
 use Rattle.solver.specs.Refusals.{placed, ended, costAt, no20, stepOrder}
 use Rattle.verdict.specs.Calls.{refuses, call}
@@ -25,7 +25,7 @@ use Rattle.solver.proofs.Ready.{Going, going, going-matched, going-lifts}
 
 -- a step writes the solution as 01 says
 pub acted-written : (o : Order) (s : Step) (ds nz : List ℕ) (h : Held) → acted o s ds nz h .solution ≡ written (revealedBy s) (opened o s ds h) (h .solution)
-unfolding acted
+unfolding acted opened stepLeaves
 acted-written o s ds nz h = refl
 
 module _ (h : Host) (c : Beside) where

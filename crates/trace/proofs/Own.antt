@@ -22,12 +22,12 @@ use Rattle.course.specs.declared.Step.the-variants.{Mix, Check, Scale, Clear, O
 use Rattle.course.specs.declared.Place.{Place}
 use Rattle.course.specs.declared.Place.the-variants.{At, Stopped, Done}
 use Rattle.course.specs.declared.Order.{Order}
-use Rattle.course.specs.StepList.{inList, costOf, maskCost, nonzeroCost, revealedBy}
+use Rattle.course.specs.StepList.{inList, costOf, costIn, maskCost, nonzeroCost, revealedBy}
 use Rattle.course.specs.Next.{firstOf, following}
 use Rattle.course.proofs.Within.{within}
 use Rattle.course.proofs.Along.{either}
 use Rattle.course.proofs.Before.{by-less}
-use Rattle.walk.specs.Act.{held, opened, written, acted}
+use Rattle.walk.specs.Act.{held, stepOpens, stepLeaves, opened, written, acted}
 
 -- an entry of [A | b]
 pub in-table : {m r c : ℕ} → 1 ≤ r → r ≤ m → 1 ≤ c → c ≤ m + 1 → Inside m (m + 1) r c
@@ -121,7 +121,7 @@ module _ (m : ℕ) where
 module _ (o : Order) (t : List ℕ) (whole : length t ≡ tableBytes (o .shares) (o .size) (o .size + 1)) {ds es : List ℕ} where
   pub opened-own : (s : Step) → inList (o .size) s ≡ true → SameDraws (fieldOf (o .field)) (maskCost o s) ds es → (x y : List ℕ)
       → opened o s ds (held t x) ≡ opened o s es (held t y)
-  unfolding opened costOf revealedBy
+  unfolding opened stepOpens costOf costIn revealedBy
   opened-own (Mix j k) h d x y = refl
   opened-own (Check j) h d x y =
       let w = within (o .size) (Check j) h in
@@ -136,7 +136,7 @@ module _ (o : Order) (t : List ℕ) (whole : length t ≡ tableBytes (o .shares)
   pub table-own : (s : Step) → inList (o .size) s ≡ true → SameDraws (fieldOf (o .field)) (maskCost o s) ds es → {nz mz : List ℕ}
       → SameDraws (fieldOf (o .field)) (nonzeroCost o s) nz mz → (x y : List ℕ) → SameRead s x y
       → acted o s ds nz (held t x) .table ≡ acted o s es mz (held t y) .table
-  unfolding acted costOf
+  unfolding acted stepLeaves costOf costIn
   table-own (Mix j k) h d dz x y b =
       let w = within (o .size) (Mix j k) h in
       mix-draws (o .field) (o .shares) (o .size) (o .size + 1) t whole (in-table (w .0) (omega arith) (w .0) (omega arith)) k d

@@ -27,7 +27,7 @@ use Rattle.course.specs.StepList.{inList, revealedBy}
 use Rattle.course.specs.Next.{firstOf, following}
 use Rattle.course.proofs.Within.{within}
 use Rattle.course.proofs.Along.{either}
-use Rattle.walk.specs.Act.{Held, opened, written, acted}
+use Rattle.walk.specs.Act.{Held, stepOpens, stepLeaves, opened, written, acted}
 use Rattle.verdict.specs.Told.{passed}
 use Rattle.verdict.specs.Refusals.{tooLarge}
 use Rattle.verdict.proofs.Passes.{unmet}
@@ -50,7 +50,7 @@ checked o t j false e = e
 
 module _ (o : Order) (some : 0 < o .shares) (ds nz : List ℕ) (h : Held) (whole : length (h .table) ≡ wholeTable o) where
   pub firm-after : (s : Step) → inList (o .size) s ≡ true → Firm o (acted o s ds nz h .table) (following (o .size) s (opened o s ds h))
-  unfolding following revealedBy zeroPivot opened acted flagOf
+  unfolding following revealedBy zeroPivot opened acted stepOpens stepLeaves flagOf
   firm-after (Mix j k) i = either (Firm o (acted o (Mix j k) ds nz h .table)) (ltb k (o .size)) refl refl
   firm-after (Check j) i =
       let w = within (o .size) (Check j) i in
@@ -80,7 +80,7 @@ module _ (o : Order) (ds : List ℕ) (h : Held) (places : length (h .solution) �
 
   -- what Open opens
   element : (j : ℕ) → opened o (Open j) ds h < fieldOf (o .field) .q
-  unfolding opened revealedBy unknownAt opening
+  unfolding opened stepOpens revealedBy unknownAt opening
   element j = sum-lt (fieldOf (o .field)) (field-of (o .field) .ring) _
 
   pub fair-after : (s : Step) → inList (o .size) s ≡ true → Fair o (left s) (following (o .size) s (opened o s ds h))

@@ -9,10 +9,10 @@ ghost use Rattle.field.specs.Field.{fieldOf};
 ghost use Rattle.sharing.specs.Run.{tab};
 ghost use Rattle.sharing.specs.Rules.{drawAt};
 ghost use Rattle.sharing.specs.Bounds.{mostEntries};
-ghost use Rattle.table.specs.Layout.{tableBytes};
+ghost use Rattle.table.specs.Layout.{Bounded, tableBytes};
 ghost use Rattle.table.specs.Steps.{columnTurn};
-ghost use Rattle.course.specs.StepList.{Sizes, inList, maskCost, nonzeroCost, fullMask, fullNonzero};
-ghost use Rattle.walk.specs.Act.{held, opened, acted};
+ghost use Rattle.course.specs.StepList.{Sizes, inList, columnOf, costIn, maskCost, nonzeroCost, fullMask, fullNonzero};
+ghost use Rattle.walk.specs.Act.{held, Row, OtherRow, stepOpens, stepLeaves, opened, acted};
 ghost use Rattle.walk.specs.Walk.{leaves, solved};
 ghost use Rattle.walk.specs.Dealing.{dealtEntry, dealTurn, dealt, gathered};
 use course::Counts;
@@ -25,6 +25,54 @@ use course::Step;
 pub enum Ending {
     Solved(Counts),
     Stopped(u64, Counts),
+}
+
+// Does one step where row r takes its column's pivot, on rows of w columns, and returns the number that it opened, 0 where it opens none.
+pub fn perform(
+    f: u64,
+    n: usize,
+    rows: usize,
+    w: usize,
+    r: usize,
+    s: Step,
+    table: &mut [u8],
+    solution: &mut [u8],
+    mask: &[u8],
+    nonzero: &[u8],
+) -> u8
+    requires { ⌜ Bounded n rows w ⌝ }
+    requires { ⌜ Row rows r × OtherRow rows s ⌝ }
+    requires { ⌜ (1 ≤ columnOf s) × (columnOf s + 1 ≤ w) × (columnOf s ≤ length (now solution)) ⌝ }
+    requires { ⌜ length (now table) ≡ tableBytes n rows w ⌝ }
+    requires { ⌜ (costIn f n w s .mask ≤ length (now mask)) × (costIn f n w s .nonzero ≤ length (now nonzero)) ⌝ }
+    ensures { λ x. ⌜ x ≡ stepOpens f n w r s (now (mask .entry)) (held (now (table .entry)) (now (solution .entry))) ⌝ }
+    ensures { λ x. ⌜ held (now (table .exit)) (now (solution .exit)) ≡ stepLeaves f n w r s (now (mask .entry)) (now (nonzero .entry)) (held (now (table .entry)) (now (solution .entry))) ⌝ }
+{
+    match s {
+        Step::Mix { j, k } => {
+            table::mix(f, n, rows, w, table, r, j as usize, k as usize, mask);
+            0
+        }
+        Step::Check(j) => table::check(f, n, rows, w, table, r, j as usize, mask),
+        Step::Scale(j) => {
+            table::scale(f, n, rows, w, table, r, j as usize, nonzero, mask);
+            0
+        }
+        Step::Clear { j, k } => {
+            table::clear(f, n, rows, w, table, r, j as usize, k as usize, mask);
+            0
+        }
+        Step::Open(j) => {
+            let x = table::open(f, n, rows, w, table, r, mask);
+            solution[j as usize - 1] = x;
+            x
+        }
+        Step::Lift(j) => {
+            let c = j as usize;
+            table::lift(f, n, rows, w, table, r, c, solution[c - 1]);
+            0
+        }
+    }
 }
 
 // Does one step of the list, and returns the number that it opened, 0 where it opens none.
@@ -43,42 +91,20 @@ pub fn act(
     ensures { λ r. ⌜ r ≡ opened o s (now (mask .entry)) (held (now (table .entry)) (now (solution .entry))) ⌝ }
     ensures { λ r. ⌜ held (now (table .exit)) (now (solution .exit)) ≡ acted o s (now (mask .entry)) (now (nonzero .entry)) (held (now (table .entry)) (now (solution .entry))) ⌝ }
 {
-    let f = o.field;
-    let n = o.shares as usize;
     let m = o.size as usize;
-    let w = m + 1;
-    match s {
-        Step::Mix { j, k } => {
-            let c = j as usize;
-            table::mix(f, n, m, w, table, c, c, k as usize, mask);
-            0
-        }
-        Step::Check(j) => {
-            let c = j as usize;
-            table::check(f, n, m, w, table, c, c, mask)
-        }
-        Step::Scale(j) => {
-            let c = j as usize;
-            table::scale(f, n, m, w, table, c, c, nonzero, mask);
-            0
-        }
-        Step::Clear { j, k } => {
-            let c = j as usize;
-            table::clear(f, n, m, w, table, c, c, k as usize, mask);
-            0
-        }
-        Step::Open(j) => {
-            let c = j as usize;
-            let x = table::open(f, n, m, w, table, c, mask);
-            solution[c - 1] = x;
-            x
-        }
-        Step::Lift(j) => {
-            let c = j as usize;
-            table::lift(f, n, m, w, table, c, c, solution[c - 1]);
-            0
-        }
-    }
+    let r = course::column_of(s) as usize;
+    perform(
+        o.field,
+        o.shares as usize,
+        m,
+        m + 1,
+        r,
+        s,
+        table,
+        solution,
+        mask,
+        nonzero,
+    )
 }
 
 // The whole solve.

@@ -7,7 +7,7 @@ use native.Mathlib.Omega.{arith}
 use borrow.Author.Needs.{needs}
 use Rattle.course.specs.declared.Step.the-variants.{Scale}
 use Rattle.course.specs.declared.Place.the-variants.{At}
-use Rattle.course.specs.StepList.{costOf, revealedBy}
+use Rattle.course.specs.StepList.{costOf, costIn, revealedBy}
 use Rattle.walk.proofs.Acted.{square}
 use Rattle.solver.specs.Refusals.{costAt, columnOf, no12}
 use Rattle.verdict.proofs.Verdicts.{tests}
@@ -36,7 +36,7 @@ add-opens-zero : tie.Need-add-opens-zero
 add-opens-zero c = search needs
 
 opens-zero-requires : tie.Need-opens-zero-requires
-unfolding costAt costOf
+unfolding costAt costOf costIn
 opens-zero-requires c κs =
     let k = c .before .before .before .before in
     let start = k .before .before .before .before .before in
