@@ -4,7 +4,7 @@
 use mathlib.Core.Path.{_≡_, refl, sym, ap, _∙_}
 use mathlib.Core.Logic.{_≢_}
 use mathlib.Core.Bool.{Bool}
-use Prim.Native.Nat.{ℕ, suc, _<_, _≤_}
+use Prim.Native.Nat.{ℕ, zero, suc, _<_, _≤_}
 use native.Mathlib.Nat.{mod-eq-of-lt}
 use native.Mathlib.Omega.{arith}
 use native.Mathlib.Decide.{ℕ-discrete}
@@ -15,9 +15,10 @@ use Rattle.flag.specs.Flag.{flagOf}
 use Rattle.algebra.specs.Linear.{Table}
 use Rattle.algebra.specs.Steps.{Mixes, Scales, Clears}
 use Rattle.algebra.proofs.Arithmetic.{ring, mul-comm, mul-one, neg-mul, add-neg}
-use Rattle.algebra.proofs.Outcome.{Small}
+use Rattle.algebra.proofs.Outcome.{adds, combines, Small}
 use Rattle.algebra.proofs.Rows.{Keep, Work, add-work, scale-work}
-use Rattle.algebra.proofs.Echelon.{Echelon, start, pivot, pass, ech-zeros, ech-ext}
+use Rattle.algebra.proofs.Opened.{Pivots}
+use Rattle.algebra.proofs.Echelon.{Below, Echelon, start, pivot, pass, ech-zeros, ech-pivot, ech-rises, ech-ext, Column, chosen, passed, columns}
 
 pub flag-yes : {v : ℕ} → v ≡ 0 → flagOf v ≡ 1
 unfolding flagOf
@@ -41,6 +42,39 @@ module _ (F : Ops) (L : Field F) (m w : ℕ) where
 
   pub shape-start : (T : Table) (p : ℕ → ℕ) → Small F T → Shape T p 0 0 T
   shape-start T p s = record { keep = λ n l v h. h; back = λ n l v h. h; form = start; small = s }
+
+  module _ {T U : Table} {p : ℕ → ℕ} where
+    -- only the places of the k pivots matter, so that more can be listed
+    pub shape-ext : {p′ : ℕ → ℕ} {k j : ℕ} → ((i : ℕ) → 1 ≤ i → i ≤ k → p′ i ≡ p i) → Shape T p k j U → Shape T p′ k j U
+    shape-ext e h =
+        record { keep = h .keep; back = h .back; form = ech-ext F L m w e (λ r c _ _ _ _. refl) (h .form); small = h .small }
+
+    -- a column that is 0 in the rows without a pivot is passed over
+    pub shape-pass : {k j : ℕ} → Below F L m w (suc k) (suc j) U → Shape T p k j U → Shape T p k (suc j) U
+    shape-pass z h = record { keep = h .keep; back = h .back; form = pass (h .form) z; small = h .small }
+
+    -- no row is left, and every later column is passed over
+    pub shape-rest : {j : ℕ} (C : ℕ) → j ≤ C → Shape T p m j U → Shape T p m C U
+    shape-rest {j} zero l h = let e : j ≡ 0 = omega arith in rw e at h
+    shape-rest {j} (suc C) l h = elim (ℕ-discrete j (suc C)) [
+      | yes e ↦ rw e at h
+      | no e ↦ shape-pass (λ r a b. absurd (omega arith)) (shape-rest C (omega arith) h)
+    ]
+
+    -- a column of T has a pivot, or combines
+    pub shape-column : {k j : ℕ} → j ≤ w → Shape T p k j U → (c : ℕ) → 1 ≤ c → c ≤ j → Column F m T p k c
+    shape-column l h zero a b = absurd (omega arith)
+    shape-column l h (suc c) a b = elim (columns F L m w p U (h .small) (h .form) (suc c) a b) [
+      | chosen i x y e apart ↦ chosen i x y e (λ v g. apart v (combines F m U refl (h .keep c (omega arith) v (adds F m T refl g))))
+      | passed out v g ↦ passed out v (combines F m T refl (h .back c (omega arith) v (adds F m U refl g)))
+    ]
+
+    pub shape-pivots : {k j : ℕ} → j < w → Shape T p k j U → Pivots F p k w
+    shape-pivots l h =
+        record {
+          before = λ i a b. let g = ech-pivot F L m w p U (h .form) i a b in omega arith;
+          apart = λ i s a b c e. let g = ech-rises F L m w p U (h .form) i s a b c in omega arith;
+        }
 
   -- the pivot's place stays 0 only if both entries are
   flag-mixed : {a b : ℕ} → a < q → b < q → a ⊕ flagOf a ⊙ b ≡ 0 → (a ≡ 0) × (b ≡ 0)
@@ -95,8 +129,7 @@ module _ (F : Ops) (L : Field F) (m w : ℕ) where
 
     -- the column has no pivot, and is passed over
     pub sought-pass : {U : Table} → Sought T p k j m U → U (suc k) (suc j) ≡ 0 → Shape T p k (suc j) U
-    sought-pass h e =
-        let s = h .shape in record { keep = s .keep; back = s .back; form = pass (s .form) (h .none e); small = s .small }
+    sought-pass h e = shape-pass (h .none e) (h .shape)
 
     pub cleared-start : {U U′ : Table} → Shape T p k j U → U (suc k) (suc j) ≢ 0 → Small F U′ → Scales m w F (suc k) (suc j) U U′
         → Cleared T p k j (suc k) U′

@@ -1,16 +1,22 @@
 -- What an echelon form tells of its columns.
 -- Assumes nothing.
-use mathlib.Core.Path.{_≡_, refl, sym, _∙_}
+use mathlib.Core.Path.{_≡_, refl, sym, ap, _∙_}
+use mathlib.Core.Logic.{_≢_}
 use Prim.Native.Nat.{ℕ, zero, suc, _<_, _≤_}
 use native.Mathlib.Nat.{mod-eq-of-lt}
 use native.Mathlib.Omega.{arith}
 use native.Mathlib.Decide.{ℕ-discrete}
 use Rattle.field.specs.Field.{Ops, Field}
-use Rattle.algebra.specs.Linear.{Table, combination, Apart}
+use Rattle.algebra.specs.Linear.{Table, combination, Combines, Apart}
 use Rattle.algebra.proofs.Arithmetic.{ring, mul-zero, mul-one, mul-comm, add-left, add-neg, sub-back, combination-zero, combination-suc, combination-ext, combination-zeros}
-use Rattle.algebra.proofs.Outcome.{adds}
+use Rattle.algebra.proofs.Outcome.{adds, combines, Small}
 use Rattle.algebra.proofs.Rows.{Zeros}
 use Rattle.algebra.proofs.Opened.{less, opened, opened-at, opened-other, opened-zero}
+
+-- Which columns combine: those with no pivot. Rows 1 to k have pivots, row i's in column p i
+pub data Column (F : Ops) (m : ℕ) (T : Table) (p : ℕ → ℕ) (k c : ℕ) : Type 0 where
+  chosen : (i : ℕ) → 1 ≤ i → i ≤ k → p i ≡ c → Apart F m T c → Column F m T p k c
+  passed : ((i : ℕ) → 1 ≤ i → i ≤ k → p i ≢ c) → (v : ℕ → ℕ) → Combines F m T c v → Column F m T p k c
 
 module _ (F : Ops) (L : Field F) (m w : ℕ) where
   open Ops F using (q, add as _⊕_, mul as _⊙_, neg)
@@ -40,18 +46,27 @@ module _ (F : Ops) (L : Field F) (m w : ℕ) where
       | no h ↦ ech-zeros e r c kr rm a (omega arith)
     ]
 
-    pub ech-le : {k j : ℕ} → Echelon p T k j → k ≤ j
-    ech-le start = omega arith
-    ech-le (pivot {k = k} {j = j} e km pk one b) = let h : k ≤ j = ech-le e in omega arith
-    ech-le (pass {k = k} {j = j} e b) = let h : k ≤ j = ech-le e in omega arith
+    pub ech-rows : {k j : ℕ} → Echelon p T k j → k ≤ m
+    ech-rows start = omega arith
+    ech-rows (pivot e km pk one b) = km
+    ech-rows (pass e b) = ech-rows e
 
-    pub ech-pivot : {k j : ℕ} → Echelon p T k j → (i : ℕ) → 1 ≤ i → i ≤ k → p i ≤ j
+    pub ech-pivot : {k j : ℕ} → Echelon p T k j → (i : ℕ) → 1 ≤ i → i ≤ k → (1 ≤ p i) × (p i ≤ j)
     ech-pivot start i a l = absurd (omega arith)
     ech-pivot (pivot {k = k} {j = j} e km pk one b) i a l = elim (ℕ-discrete i (suc k)) [
       | yes h ↦ rw (h, pk) (omega arith)
-      | no h ↦ let g : p i ≤ j = ech-pivot e i a (omega arith) in omega arith
+      | no h ↦ let g = ech-pivot e i a (omega arith) in omega arith
     ]
-    ech-pivot (pass {k = k} {j = j} e b) i a l = let g : p i ≤ j = ech-pivot e i a l in omega arith
+    ech-pivot (pass {k = k} {j = j} e b) i a l = let g = ech-pivot e i a l in omega arith
+
+    -- a later row's pivot stands further right
+    pub ech-rises : {k j : ℕ} → Echelon p T k j → (i s : ℕ) → 1 ≤ i → i < s → s ≤ k → p i < p s
+    ech-rises start i s a b l = absurd (omega arith)
+    ech-rises (pivot {k = k} {j = j} e km pk one w) i s a b l = elim (ℕ-discrete s (suc k)) [
+      | yes h ↦ rw (h, pk) (let g = ech-pivot e i a (omega arith) in omega arith)
+      | no h ↦ ech-rises e i s a b (omega arith)
+    ]
+    ech-rises (pass e w) i s a b l = ech-rises e i s a b l
 
     -- the right side that is left when row k's unknown is known
     less-zero : (k : ℕ) (b : ℕ → ℕ) → T k (p k) ≡ 1 → Below (suc k) (p k) T → ((r : ℕ) → suc k ≤ r → r ≤ m → b r ≡ 0) → (r : ℕ)
@@ -67,7 +82,7 @@ module _ (F : Ops) (L : Field F) (m w : ℕ) where
     opened-solves start b small z r a l = combination-zero F L _ _ ∙ sym (z r (omega arith) l)
     opened-solves (pass {k = k} {j = j} e w) b small z r a l =
         combination-suc F L j _ _
-        ∙ rw (opened-zero F p T k b (suc j) (λ i x y h. let g : p i ≤ j = ech-pivot e i x y in omega arith), opened-solves e b small z r a l)
+        ∙ rw (opened-zero F p T k b (suc j) (λ i x y h. let g = ech-pivot e i x y in omega arith), opened-solves e b small z r a l)
         (simp ring (mod-eq-of-lt (small r)))
     opened-solves (pivot {k = k} {j = j} e km pk one w) b small z r a l =
         combination-suc F L j _ _
@@ -86,14 +101,25 @@ module _ (F : Ops) (L : Field F) (m w : ℕ) where
         ∙ adds F m T refl h (suc k) (omega arith) km ∙ one in
         omega arith
 
-    -- as many pivots as columns: none combines
-    pub all-apart : {k j : ℕ} → Echelon p T k j → j ≤ k → (c : ℕ) → 1 ≤ c → c ≤ j → Apart F m T c
-    all-apart start h c a l = absurd (omega arith)
-    all-apart (pivot {k = k} {j = j} e km pk one w) h c a l = elim (ℕ-discrete c (suc j)) [
-      | yes g ↦ rw g (pivot-apart e km one)
-      | no g ↦ all-apart e (omega arith) c a (omega arith)
+    -- a column that is 0 in the rows without a pivot is one
+    pass-combines : {k j : ℕ} → Small F T → Echelon p T k j → Below (suc k) (suc j) T → Combines F m T (suc j) (opened F p T k (λ r. T r (suc j)))
+    pass-combines {k} {j} small e w = combines F m T refl (opened-solves e (λ r. T r (suc j)) (λ r. small r (suc j)) w)
+
+    column-more : {k j c : ℕ} → p (suc k) ≡ suc j → c ≢ suc j → Column F m T p k c → Column F m T p (suc k) c
+    column-more pk n (chosen i a l e f) = chosen i a (omega arith) e f
+    column-more {k} pk n (passed h v w) =
+        passed (λ i a l e. elim (ℕ-discrete i (suc k)) [ yes u ↦ n (sym e ∙ ap p u ∙ pk) | no u ↦ h i a (omega arith) e ]) v w
+
+    pub columns : {k j : ℕ} → Small F T → Echelon p T k j → (c : ℕ) → 1 ≤ c → c ≤ j → Column F m T p k c
+    columns small start c a l = absurd (omega arith)
+    columns small (pivot {k = k} {j = j} e km pk one w) c a l = elim (ℕ-discrete c (suc j)) [
+      | yes h ↦ chosen (suc k) (omega arith) (omega arith) (pk ∙ sym h) (rw h (pivot-apart e km one))
+      | no h ↦ column-more pk h (columns small e c a (omega arith))
     ]
-    all-apart (pass {k = k} {j = j} e w) h c a l = let g : k ≤ j = ech-le e in absurd (omega arith)
+    columns small (pass {k = k} {j = j} e w) c a l = elim (ℕ-discrete c (suc j)) [
+      | yes h ↦ rw h (passed (λ i x y u. let g = ech-pivot e i x y in omega arith) _ (pass-combines small e w))
+      | no h ↦ columns small e c a (omega arith)
+    ]
 
   -- only the first j columns, in the m rows, and the places of the k pivots matter
   pub ech-ext : {p p′ : ℕ → ℕ} {T U : Table} {k j : ℕ} → ((i : ℕ) → 1 ≤ i → i ≤ k → p′ i ≡ p i)

@@ -4,5 +4,8 @@ pub mod Rows
 pub mod Opened
 pub mod Echelon
 pub mod Column
+pub mod Pattern
+pub mod Wide
 pub mod Square
 pub mod Independent
+pub mod Examples

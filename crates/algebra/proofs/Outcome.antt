@@ -62,16 +62,16 @@ module _ (F : Ops) (m : ℕ) (T : Table) where
   pub first-stopped : Field F → IsStopped F m T 1 → (r : ℕ) → 1 ≤ r → r ≤ m → T r 1 ≡ 0
   first-stopped L h r a b = sym (adds refl (h .combines) r a b) ∙ combination-zero F L (T r) (h .factors)
 
--- one value in each entry of a system of size m
-abbrev pub Alike : ℕ → Table → Table → Type 0
-Alike m T U = (r c : ℕ) → 1 ≤ r → r ≤ m → 1 ≤ c → c ≤ m + 1 → T r c ≡ U r c
+-- one value in each entry of m rows and w columns
+abbrev pub Alike : ℕ → ℕ → Table → Table → Type 0
+Alike m w T U = (r c : ℕ) → 1 ≤ r → r ≤ m → 1 ≤ c → c ≤ w → T r c ≡ U r c
+
+pub alike-back : (m w : ℕ) {T U : Table} → Alike m w T U → Alike m w U T
+alike-back m w e r c a b d g = sym (e r c a b d g)
 
 module _ (F : Ops) (L : Field F) (m : ℕ) where
-  alike-back : {T U : Table} → Alike m T U → Alike m U T
-  alike-back e r c a b d g = sym (e r c a b d g)
-
-  module _ {T U : Table} (e : Alike m T U) where
-    combines-alike : (j : ℕ) → 1 ≤ j → j ≤ m + 1 → (v : ℕ → ℕ) → Combines F m T j v → Combines F m U j v
+  module _ (w : ℕ) {T U : Table} (e : Alike m w T U) where
+    pub combines-alike : (j : ℕ) → 1 ≤ j → j ≤ w → (v : ℕ → ℕ) → Combines F m T j v → Combines F m U j v
     combines-alike j a b v h =
         record {
           holds = λ r x y.
@@ -79,13 +79,17 @@ module _ (F : Ops) (L : Field F) (m : ℕ) where
               ∙ h .holds r x y ∙ e r j x y a b;
         }
 
-  module _ {T U : Table} (e : Alike m T U) where
+  module _ (w : ℕ) {T U : Table} (e : Alike m w T U) where
+    pub apart-alike : (j : ℕ) → 1 ≤ j → j ≤ w → Apart F m T j → Apart F m U j
+    apart-alike j a b h v g = h v (combines-alike w (alike-back m w e) j a b v g)
+
+  module _ {T U : Table} (e : Alike m (m + 1) T U) where
     pub solved-alike : {x : ℕ → ℕ} → IsSolved F m T x → IsSolved F m U x
     solved-alike {x} h =
         record {
-          independent = λ j a b v g. h .independent j a b v (combines-alike (alike-back e) j a (omega arith) v g);
-          solves = combines-alike e (m + 1) (omega arith) (omega arith) x (h .solves);
-          only = λ y g. h .only y (combines-alike (alike-back e) (m + 1) (omega arith) (omega arith) y g);
+          independent = λ j a b. apart-alike (m + 1) e j a (omega arith) (h .independent j a b);
+          solves = combines-alike (m + 1) e (m + 1) (omega arith) (omega arith) x (h .solves);
+          only = λ y g. h .only y (combines-alike (m + 1) (alike-back m (m + 1) e) (m + 1) (omega arith) (omega arith) y g);
         }
 
     pub stopped-alike : {j : ℕ} → IsStopped F m T j → IsStopped F m U j
@@ -94,8 +98,8 @@ module _ (F : Ops) (L : Field F) (m : ℕ) where
           low = h .low;
           high = h .high;
           factors = h .factors;
-          combines = combines-alike e j (h .low) (omega (arith, h .high)) (h .factors) (h .combines);
-          first = λ i a b v g. h .first i a b v (combines-alike (alike-back e) i a (omega (arith, h .high)) v g);
+          combines = combines-alike (m + 1) e j (h .low) (omega (arith, h .high)) (h .factors) (h .combines);
+          first = λ i a b. apart-alike (m + 1) e i a (omega (arith, h .high)) (h .first i a b);
         }
 
     pub means-alike : (a : Answer) (x : List ℕ) → Means F m T a x → Means F m U a x

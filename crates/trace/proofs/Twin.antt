@@ -53,7 +53,7 @@ module _ (o : Order) (t values : List ℕ) (gathers : gathered (o .field) (o .sh
   share-sum e = sum F (part (o .shares) (e * o .shares) t)
 
   -- the values are the equations that the shares add up to
-  values-are : Alike m (valueOf o t) (at (m + 1) values)
+  values-are : Alike m (m + 1) (valueOf o t) (at (m + 1) values)
   unfolding valueOf at cell gathered entries share-sum
   values-are r c a b d e =
       let row : suc (r - 1) * (m + 1) ≤ m * (m + 1) = mul-le-mul-right (m + 1) (omega arith) in
