@@ -25,7 +25,7 @@ use Rattle.course.proofs.Sums.{openings-length, sum-append}
 use Rattle.course.proofs.Along.{either}
 
 -- one more of a run is its next one, at the end
-each-snoc : (f : ℕ → Step) (n a b k : ℕ) → b ≡ suc n → k ≡ a + n → each f a b ≡ each f a n ++ (f k ∷ [])
+pub each-snoc : (f : ℕ → Step) (n a b k : ℕ) → b ≡ suc n → k ≡ a + n → each f a b ≡ each f a n ++ (f k ∷ [])
 unfolding each
 each-snoc f zero a b k e g =
     let x : k ≡ a = omega arith in

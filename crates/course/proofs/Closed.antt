@@ -77,7 +77,7 @@ row-least y (suc d) = omega (arith, row-least y d)
 
 -- ---- the draws of the whole columns
 
-each-sum : (g : Step → ℕ) (f : ℕ → Step) (x : ℕ) → ((k : ℕ) → g (f k) ≡ x) → (n a : ℕ) → sumOver g (each f a n) ≡ n * x
+pub each-sum : (g : Step → ℕ) (f : ℕ → Step) (x : ℕ) → ((k : ℕ) → g (f k) ≡ x) → (n a : ℕ) → sumOver g (each f a n) ≡ n * x
 unfolding each sumOver
 each-sum g f x h zero a = omega arith
 each-sum g f x h (suc n) a = omega (arith, h a, each-sum g f x h n (a + 1))

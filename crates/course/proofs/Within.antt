@@ -1,6 +1,7 @@
 -- What the closed test `inList` says of a step's numbers: 1 ≤ j ≤ m, j < k ≤ m where there is a k, and 2 ≤ j for Lift.
 -- Assumes nothing.
 use mathlib.Core.Bool.{Bool, true, false, _&&_, false≢true}
+use mathlib.Core.Logic.{_⊎_, ⊎-elim}
 use mathlib.Core.Path.{_≡_, refl}
 use Prim.Native.Nat.{ℕ, _<_, _≤_}
 use native.Mathlib.Omega.{arith}
@@ -65,3 +66,7 @@ column-in m (Scale j) w = w
 column-in m (Clear j k) w = (w .0, omega arith)
 column-in m (Open j) w = w
 column-in m (Lift j) w = (omega arith, w .1)
+
+-- a step is none of the five others
+pub not-of-five : {A B C D E : Type 0} → (A → ⊥) → (B → ⊥) → (C → ⊥) → (D → ⊥) → (E → ⊥) → A ⊎ (B ⊎ (C ⊎ (D ⊎ E))) → ⊥
+not-of-five a b c d e s = ⊎-elim a (⊎-elim b (⊎-elim c (⊎-elim d e))) s

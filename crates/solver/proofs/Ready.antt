@@ -254,10 +254,6 @@ both-zero a b there back = elim (ℕ-discrete a 0) [
   | no n ↦ ne-eqb a 0 n ∙ sym (ne-eqb b 0 (λ e. n (back e)))
 ]
 
--- a step is none of the five others
-pub not-of-five : {A B C D E : Type 0} → (A → ⊥) → (B → ⊥) → (C → ⊥) → (D → ⊥) → (E → ⊥) → A ⊎ (B ⊎ (C ⊎ (D ⊎ E))) → ⊥
-not-of-five a b c d e s = ⊎-elim a (⊎-elim b (⊎-elim c (⊎-elim d e))) s
-
 -- a place that is no Scale has no pivot
 pub no-pivot : (o : Order) (place : Place) (t : List ℕ) → ((j : ℕ) → place ≡ At (Scale j) → ⊥) → passed ≡ no12 o place t
 unfolding no12 revealedBy zeroPivot

@@ -9,7 +9,7 @@ use Rattle.course.specs.declared.Step.the-variants.{Mix, Check, Scale, Clear, O
 use Rattle.course.specs.StepList.{revealedBy}
 use Rattle.verdict.specs.Calls.{Says, gives}
 use Rattle.solver.specs.Calls.{Stride, moved, tells}
-use Rattle.solver.proofs.Ready.{not-of-five}
+use Rattle.course.proofs.Within.{not-of-five}
 use Rattle.solver.proofs.answer.Statement.{statement}
 use Rattle.solver.proofs.answer.Tie as tie
 

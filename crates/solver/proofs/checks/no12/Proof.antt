@@ -11,7 +11,8 @@ use Rattle.course.specs.StepList.{costOf, costIn, revealedBy}
 use Rattle.walk.proofs.Acted.{square}
 use Rattle.solver.specs.Refusals.{costAt, columnOf, no12}
 use Rattle.verdict.proofs.Verdicts.{tests}
-use Rattle.solver.proofs.Ready.{not-of-five, no-pivot, at-step, pivot-cell, pivot-told}
+use Rattle.course.proofs.Within.{not-of-five}
+use Rattle.solver.proofs.Ready.{no-pivot, at-step, pivot-cell, pivot-told}
 use Rattle.solver.proofs.checks.no12.Statement.{statement}
 use Rattle.solver.proofs.checks.no12.Tie as tie
 

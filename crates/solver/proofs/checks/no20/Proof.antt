@@ -7,10 +7,10 @@ use native.Mathlib.Omega.{arith}
 use borrow.Author.Needs.{needs}
 use Rattle.course.specs.declared.Step.the-variants.{Lift}
 use Rattle.course.specs.declared.Place.the-variants.{At}
-use Rattle.course.proofs.Within.{within}
+use Rattle.course.proofs.Within.{within, not-of-five}
 use Rattle.solver.specs.Refusals.{liftRefused, no20}
 use Rattle.verdict.proofs.Verdicts.{tests}
-use Rattle.solver.proofs.Ready.{not-of-five, no-lift, at-step}
+use Rattle.solver.proofs.Ready.{no-lift, at-step}
 use Rattle.solver.proofs.checks.no20.Statement.{statement}
 use Rattle.solver.proofs.checks.no20.Tie as tie
 
