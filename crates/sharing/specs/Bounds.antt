@@ -3,12 +3,16 @@
 -- Assumes nothing.
 use Prim.Native.Nat.{ℕ, _+_, _-_, _*_, _/_}
 
--- the size of a system is 1 to 96; a row has an entry for each column of A, and one of b
+-- the size of a square system is 1 to 96; its row has an entry for each column of A, and one of b. `row` has room for so many at one time
 abbrev pub mostRows : ℕ
 mostRows = 96
 
 abbrev pub mostWidth : ℕ
 mostWidth = 97
+
+-- a row of R-8's wide systems: 144 columns and b
+abbrev pub mostColumns : ℕ
+mostColumns = 145
 
 abbrev pub mostEntries : ℕ
 mostEntries = mostRows * mostWidth
@@ -19,7 +23,7 @@ mostSteps = mostRows * (mostRows + 3) - 1
 
 -- the draws of a Scale of a whole row in four shares; no step takes more
 abbrev pub mostDraws : ℕ
-mostDraws = 15 + 12 * mostWidth
+mostDraws = 15 + 12 * mostColumns
 
 -- the bytes of a row in four shares, and room for it in whole blocks of 16
 abbrev pub mostRowBytes : ℕ

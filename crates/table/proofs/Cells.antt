@@ -7,7 +7,7 @@ use Prim.Native.Nat.{ℕ, suc, _+_, _-_, _*_, _<_, _≤_}
 use mathlib.Core.List.{List}
 use native.Mathlib.Omega.{arith}
 use native.Mathlib.Decide.{ℕ-discrete, decLt}
-use native.Mathlib.Nat.{suc-mul, add-mul, one-mul, mul-le-mul-right}
+use native.Mathlib.Nat.{le-refl, suc-mul, add-mul, one-mul, mul-le-mul-right}
 use lib.ListN.{length}
 use Rattle.table.specs.Layout.{cell, tableBytes, part, put, entry, columnsFrom, rowFrom, putRow, Inside}
 use Rattle.table.proofs.Parts.{part-length, part-part, part-inside, part-same, part-before, part-behind, put-length}
@@ -59,10 +59,21 @@ columns-order n {w = w} {r = r} {j = j} {s = s} {d = d} P Q columns h o =
     omega (arith, mul-le-mul-right n le, add-mul x columns n)
 
 -- two rows do not meet
-pub row-order : (n : ℕ) {rows w r s j : ℕ} → Inside rows w r j → Inside rows w s j → r < s
+row-order : (n : ℕ) {rows w r s j : ℕ} → Inside rows w r j → Inside rows w s j → r < s
     → cell n w r j + columnsFrom w j * n ≤ cell n w s j
 row-order n {w = w} {j = j} P Q h =
     columns-order n P Q (columnsFrom w j) (omega arith) (inl h)
+
+-- a row begins with another or before it, or else behind it
+pub row-apart : (n : ℕ) {rows w r s j : ℕ} → Inside rows w r j → Inside rows w s j
+    → (cell n w r j ≤ cell n w s j) ⊎ (cell n w s j + columnsFrom w j * n ≤ cell n w r j)
+row-apart n {w = w} {r = r} {s = s} {j = j} P Q = elim (decLt s r) [
+  | yes h ↦ inr (row-order n Q P h)
+  | no h ↦ elim (decLt r s) [
+    | yes g ↦ inl (omega (arith, row-order n P Q g))
+    | no g ↦ let e : r ≡ s = omega arith in inl (rw e (le-refl (cell n w s j)))
+  ]
+]
 
 module _ (n rows w : ℕ) (t : List ℕ) (lt : length t ≡ tableBytes n rows w) where
   pub entry-length : {r c : ℕ} → Inside rows w r c → length (entry n w r c t) ≡ n

@@ -1,17 +1,37 @@
--- A loop over the columns of a row: it keeps the row's length, and each column becomes its own turn of itself.
+-- The columns of a row make the row. A loop over them keeps the row's length, and each column becomes its own turn of itself.
 -- Assumes nothing.
-use mathlib.Core.Path.{_≡_, refl, ap, _∙_, subst⁻¹}
-use Prim.Native.Nat.{ℕ, suc, _+_, _*_, _<_, _≤_}
-use mathlib.Core.List.{List}
+use mathlib.Core.Path.{_≡_, refl, sym, ap, ap₂, _∙_, subst⁻¹}
+use Prim.Native.Nat.{ℕ, zero, suc, _+_, _*_, _<_, _≤_}
+use mathlib.Core.List.{List, [], _∷_, _++_}
 use native.Mathlib.Omega.{arith}
 use native.Mathlib.Decide.{decLt}
-use native.Mathlib.Nat.{le-refl}
-use lib.ListN.{length}
+use native.Mathlib.Nat.{le-refl, suc-mul}
+use lib.ListN.{length, take, drop, length-drop, take-append-drop}
+use lib.Seq.{drop-drop}
 use Rattle.sharing.proofs.Pairs.{run-holds}
 use Rattle.table.specs.Layout.{part}
 use Rattle.table.specs.Steps.{columnTurn, overColumns}
 use Rattle.table.proofs.Parts.{part-length, part-same, part-before, part-behind, put-length}
 use Rattle.table.proofs.Cells.{column-in}
+
+-- rows whose columns are the same
+pub columns-ext : (n columns : ℕ) (a b : List ℕ) → length a ≡ columns * n → length b ≡ columns * n
+    → ((u : ℕ) → u < columns → part n (u * n) a ≡ part n (u * n) b) → a ≡ b
+unfolding part
+columns-ext n zero [] [] la lb h = refl
+columns-ext n zero [] (y ∷ b) la lb h = absurd (omega (arith, lb))
+columns-ext n zero (x ∷ a) b la lb h = absurd (omega (arith, la))
+columns-ext n (suc k) a b la lb h =
+    sym (take-append-drop n a)
+    ∙ ap₂ (λ (x y : List ℕ). x ++ y) (first a ∙ h 0 (omega arith) ∙ sym (first b))
+    (columns-ext n k (drop n a) (drop n b) (rw length-drop (omega (arith, la, suc-mul k n))) (rw length-drop (omega (arith, lb, suc-mul k n))) (λ u l. later a u ∙ h (suc u) (omega arith) ∙ sym (later b u)))
+    ∙ take-append-drop n b
+  where
+    first : (s : List ℕ) → take n s ≡ take n (drop (0 * n) s)
+    first s = let e : 0 * n ≡ 0 = omega arith in rw e
+
+    later : (s : List ℕ) (u : ℕ) → take n (drop (u * n) (drop n s)) ≡ take n (drop (suc u * n) s)
+    later s u = let e : n + u * n ≡ suc u * n = omega (arith, suc-mul u n) in rw (drop-drop (u * n) n s, e)
 
 -- a turn that keeps an entry's n shares
 pub record Keeps (n : ℕ) (turn : ℕ → List ℕ → List ℕ) : Type 0 where

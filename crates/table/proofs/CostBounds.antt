@@ -1,4 +1,4 @@
--- How many draws a step takes at most: there are four shares or fewer, and mostWidth columns or fewer.
+-- How many draws a step takes at most: there are four shares or fewer, and mostColumns columns or fewer.
 -- Assumes nothing.
 use Prim.Native.Nat.{ℕ, _+_, _-_, _*_, _≤_}
 use native.Mathlib.Omega.{arith}
@@ -6,7 +6,7 @@ use native.Mathlib.Nat.{mul-le-mul}
 use Rattle.sharing.specs.Run.{pairs}
 use Rattle.sharing.proofs.Pairs.{pairs-count}
 use Rattle.sharing.proofs.Draws.{inversion-few}
-use Rattle.sharing.specs.Bounds.{mostWidth, mostDraws}
+use Rattle.sharing.specs.Bounds.{mostColumns, mostDraws}
 use Rattle.flag.proofs.Folding.{flag-few}
 use Rattle.table.specs.Costs.{mixCost, checkCost, scaleCost, clearCost, openCost}
 
@@ -23,11 +23,11 @@ few n h =
       pairs-few = omega (arith, pairs-count n);
     }
 
-pub clear-few : (n l : ℕ) → n ≤ 4 → l ≤ mostWidth → clearCost n l ≤ mostWidth * 6
+pub clear-few : (n l : ℕ) → n ≤ 4 → l ≤ mostColumns → clearCost n l ≤ mostColumns * 6
 unfolding clearCost
-clear-few n l h k = mul-le-mul {n₁ = l} {m₁ = pairs n} {n₂ = mostWidth} {m₂ = 6} k (few n h .pairs-few)
+clear-few n l h k = mul-le-mul {n₁ = l} {m₁ = pairs n} {n₂ = mostColumns} {m₂ = 6} k (few n h .pairs-few)
 
-pub mix-few : (f n l : ℕ) → n ≤ 4 → l ≤ mostWidth → mixCost f n l ≤ mostDraws
+pub mix-few : (f n l : ℕ) → n ≤ 4 → l ≤ mostColumns → mixCost f n l ≤ mostDraws
 unfolding mixCost clearCost
 mix-few f n l h k = omega (arith, flag-few f n h, clear-few n l h k)
 
@@ -35,10 +35,10 @@ pub check-few : (f n : ℕ) → n ≤ 4 → checkCost f n ≤ mostDraws
 unfolding checkCost
 check-few f n h = omega (arith, flag-few f n h, few n h .pairs-few)
 
-pub scale-few : (n l : ℕ) → n ≤ 4 → l ≤ mostWidth → scaleCost n l ≤ mostDraws
+pub scale-few : (n l : ℕ) → n ≤ 4 → l ≤ mostColumns → scaleCost n l ≤ mostDraws
 unfolding scaleCost
 scale-few n l h k =
-    omega (arith, inversion-few n h, mul-le-mul {n₁ = n * (n - 1)} {m₁ = l} {n₂ = 12} {m₂ = mostWidth} (few n h .product) k)
+    omega (arith, inversion-few n h, mul-le-mul {n₁ = n * (n - 1)} {m₁ = l} {n₂ = 12} {m₂ = mostColumns} (few n h .product) k)
 
 pub open-few : (n : ℕ) → n ≤ 4 → openCost n ≤ mostDraws
 unfolding openCost

@@ -1,17 +1,14 @@
--- How long a lent part is, that a row fits the array that it is copied to, and what a loop over the shares of two sharings leaves.
+-- How long a lent part is, and what a loop over the shares of two sharings leaves.
 -- Assumes nothing.
 use mathlib.Core.Path.{_≡_, refl, ap, _∙_}
-use Prim.Native.Nat.{ℕ, zero, suc, _+_, _-_, _*_, _≤_}
+use Prim.Native.Nat.{ℕ, zero, suc, _+_, _-_, _≤_}
 use mathlib.Core.List.{List, [], _∷_}
 use native.Mathlib.Omega.{arith}
-use native.Mathlib.Nat.{mul-le-mul}
 use lib.ListN.{length, getD, take, drop, length-drop}
 use Rattle.sharing.specs.Run.{run, tab}
 use Rattle.sharing.specs.Lists.{joined}
 use Rattle.sharing.proofs.Loops.{run-done, rest}
 use Rattle.sharing.proofs.Each.{each}
-use Rattle.sharing.specs.Bounds.{mostWidth, mostRowBytes}
-use Rattle.table.specs.Layout.{columnsFrom, Bounded, Inside}
 use Rattle.table.proofs.Parts.{part-lent, part-length}
 
 -- ---- what is lent
@@ -23,14 +20,6 @@ lent-length k p t h = ap length (part-lent k p t) ∙ part-length k p t h
 -- `&ds[d..]` has k draws
 pub rest-room : (d k : ℕ) (ds : List ℕ) → d + k ≤ length ds → k ≤ length (take (length ds - d) (drop d ds))
 rest-room d k ds h = rw (rest d ds, length-drop d ds) (omega arith)
-
--- how many columns a row has from some place on
-pub some-columns : {n rows w r j : ℕ} → Bounded n rows w → Inside rows w r j → (1 ≤ columnsFrom w j) × (columnsFrom w j ≤ mostWidth)
-some-columns S P = (omega arith, omega arith)
-
--- a row fits the array that it is copied to
-pub row-small : {n rows w r j : ℕ} → Bounded n rows w → Inside rows w r j → columnsFrom w j * n ≤ mostRowBytes
-row-small {n} {w = w} {j = j} S P = mul-le-mul {n₁ = columnsFrom w j} {m₁ = n} {n₂ = mostWidth} {m₂ = 4} (omega arith) (omega arith)
 
 -- ---- `for i in 0..s.len() { s[i] = op(s[i], v[i]); }`
 

@@ -10,4 +10,5 @@ pub mod CostBounds
 pub mod Scaling
 pub mod Lent
 pub mod Rows
+pub mod Joining
 pub mod Elements

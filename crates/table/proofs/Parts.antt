@@ -5,7 +5,7 @@ use Prim.Native.Nat.{ℕ, zero, suc, _+_, _-_, _<_, _≤_}
 use mathlib.Core.List.{List, [], _∷_, _++_, append-assoc}
 use native.Mathlib.Omega.{arith}
 use lib.ListN.{length, getD, take, drop, length-append, length-take, length-drop, take-append-drop}
-use lib.Seq.{length-take-le, take-append-le, drop-append-le, take-append-add, drop-append-add, take-nil, take-take, drop-drop, take-all, getD-take, getD-drop}
+use lib.Seq.{length-take-le, take-append-le, drop-append-le, take-append-add, drop-append-add, take-nil, take-take, drop-drop, take-all, drop-at, getD-take, getD-drop}
 use Rattle.table.specs.Layout.{part, put}
 
 -- ---- what the code lends
@@ -50,11 +50,29 @@ unfolding part
 part-part l o k p t g =
     rw (drop-take o k (drop p t), take-take l (k - o) (drop o (drop p t)) (omega arith), drop-drop o p t)
 
+-- of two lists, a part of the first and a part of the second
+pub part-first : (l o : ℕ) (x y : List ℕ) → o + l ≤ length x → part l o (x ++ y) ≡ part l o x
+unfolding part
+part-first l o x y g =
+    rw (drop-append-le o x y (omega arith), take-append-le l (drop o x) y (rw length-drop (omega arith)))
+
+pub part-second : (l o k : ℕ) (x y : List ℕ) → length x ≡ k → part l (k + o) (x ++ y) ≡ part l o y
+unfolding part
+part-second l o k x y e = rw (← e, drop-append-add x y o)
+
 -- the part that stands there, put there
 pub put-part : (k p : ℕ) (t : List ℕ) → put k p (part k p t) t ≡ t
 unfolding put part
 put-part k p t =
     ap (λ (x : List ℕ). take p t ++ x) (take-append-drop k (drop p t)) ∙ take-append-drop p t
+
+-- a part put before another
+pub put-before : (k l p : ℕ) (x y t : List ℕ) → p + k ≤ length t → put k p x (put l (p + k) y t) ≡ put (k + l) p (x ++ y) t
+unfolding put
+put-before k l p x y t h =
+    let r = y ++ drop l (drop (p + k) t) in
+    let e : length (take (p + k) t) ≡ p + k = length-take-le (p + k) t h in
+    rw (take-append-le p (take (p + k) t) r (omega arith), take-take p (p + k) t (omega arith), drop-drop k p (take (p + k) t ++ r), drop-at (take (p + k) t) r (p + k) e, ← drop-drop k p t, drop-drop l k (drop p t)) (simp append-assoc)
 
 -- ---- after s was put at p
 
@@ -89,16 +107,13 @@ module _ (k p : ℕ) (s t : List ℕ) (ls : length s ≡ k) (h : p + k ≤ lengt
       rw (e, drop-append-add (take p t) (s ++ r) o, drop-append-le o s r (omega arith), drop-append-le l (drop o s) r (rw length-drop (omega arith))) in
       rw (a, b) (simp append-assoc)
 
-  front : (l o : ℕ) → o + l ≤ p → (x : List ℕ) → part l o (take p t ++ x) ≡ take l (drop o (take p t))
-  unfolding part
-  front l o g x =
-      let e : length (take p t) ≡ p = head in
-      rw (drop-append-le o (take p t) x (omega arith), take-append-le l (drop o (take p t)) x (rw length-drop (omega arith)))
-
   pub part-before : (l o : ℕ) → o + l ≤ p → part l o (put k p s t) ≡ part l o t
   unfolding put
   part-before l o g =
-      front l o g (s ++ drop k (drop p t)) ∙ sym (front l o g (drop p t)) ∙ ap (part l o) (take-append-drop p t)
+      let e : o + l ≤ length (take p t) = omega (arith, head) in
+      part-first l o (take p t) (s ++ drop k (drop p t)) e
+      ∙ sym (part-first l o (take p t) (drop p t) e)
+      ∙ ap (part l o) (take-append-drop p t)
 
   pub part-behind : (l o : ℕ) → p + k ≤ o → part l o (put k p s t) ≡ part l o t
   unfolding put part

@@ -1,15 +1,15 @@
 -- A row of Products that is added to, or taken from, another row is the join of 01, column by column: what joins a share is reduced by the
 -- field's sum.
 -- Assumes nothing.
-use mathlib.Core.Path.{_≡_, refl, sym, ap, _∙_}
+use mathlib.Core.Path.{_≡_, sym, ap, _∙_}
 use mathlib.Core.Bool.{Bool, true, false}
 use Prim.Native.Nat.{ℕ, _+_, _*_, _/_, _%_, _<_, _≤_}
 use mathlib.Core.List.{List, _++_}
 use native.Mathlib.Omega.{arith}
 use native.Mathlib.Decide.{decLt}
 use native.Mathlib.Nat.{mod-lt, div-add-mod', mul-le-mul, mul-le-mul-right}
-use lib.ListN.{length, getD, take, drop, length-drop}
-use lib.Seq.{getD-take, take-append-le, drop-append-le}
+use lib.ListN.{length, getD, take, drop}
+use lib.Seq.{getD-take}
 use Rattle.field.specs.Field.{Ring, fieldOf}
 use Rattle.field.proofs.Fields.{field-of}
 use Rattle.sharing.specs.Run.{tab, pairs}
@@ -22,7 +22,7 @@ use Rattle.sharing.specs.Bounds.{mostWidth, mostRowBytes}
 use Rattle.row.specs.Rows.{Products}
 use Rattle.table.specs.Layout.{part, put}
 use Rattle.table.specs.Steps.{signed, overColumns, joinTurn, joinRow}
-use Rattle.table.proofs.Parts.{part-at, part-length}
+use Rattle.table.proofs.Parts.{part-at, part-length, part-first}
 use Rattle.table.proofs.Cells.{column-in}
 use Rattle.table.proofs.Columns.{Keeps, overColumns-length, overColumns-at}
 
@@ -91,12 +91,10 @@ module _ (f : ℕ) where
 
 pub joinRow-front : (f n columns : ℕ) (minus : Bool) (ds factor a z row : List ℕ) → length a ≡ columns * n
     → joinRow (fieldOf f) minus n columns ds factor (a ++ z) row ≡ joinRow (fieldOf f) minus n columns ds factor a row
-unfolding joinRow overColumns joinTurn part
+unfolding joinRow overColumns joinTurn
 joinRow-front f n columns minus ds factor a z row l =
     run-ext _ _ columns
     (λ u h s.
-    let inside : u * n + n ≤ length a = omega (arith, column-in n h) in
-    let e : take n (drop (u * n) (a ++ z)) ≡ take n (drop (u * n) a) =
-    rw (drop-append-le (u * n) a z (omega arith), take-append-le n (drop (u * n) a) z (rw length-drop (omega arith))) refl in
-    ap (λ (y : List ℕ). put n (u * n) (joined (signed (fieldOf f) minus) (take n (drop (u * n) s)) (product (fieldOf f) (drop (u * pairs n) ds) factor y)) s) e)
+    ap (λ (y : List ℕ). put n (u * n) (joined (signed (fieldOf f) minus) (part n (u * n) s) (product (fieldOf f) (drop (u * pairs n) ds) factor y)) s)
+    (part-first n (u * n) a z (omega (arith, column-in n h))))
     row

@@ -1,28 +1,27 @@
 -- Scale: how far its loops reach, that the array of four that an inversion returns serves as the list of its factors, and that a row may be
 -- multiplied whole before its entries are refreshed.
 -- Assumes nothing.
-use mathlib.Core.Path.{_≡_, refl, sym, ap, ap₂, _∙_}
-use Prim.Native.Nat.{ℕ, zero, suc, _+_, _-_, _*_, _<_, _≤_}
-use mathlib.Core.List.{List, [], _∷_, _++_, map}
+use mathlib.Core.Path.{_≡_, refl, sym, ap, _∙_}
+use Prim.Native.Nat.{ℕ, zero, suc, _-_, _*_, _≤_}
+use mathlib.Core.List.{List, [], _∷_, map}
 use native.Mathlib.Omega.{arith}
-use native.Mathlib.Nat.{mul-le-mul, suc-mul}
-use lib.ListN.{length, take, drop, length-drop, take-append-drop}
-use lib.Seq.{drop-drop}
+use native.Mathlib.Nat.{mul-le-mul}
+use lib.ListN.{length, take, drop}
 use Rattle.field.specs.Field.{Ops}
 use Rattle.sharing.specs.Rules.{fourOf, refresh, scaled}
 use Rattle.sharing.proofs.Loops.{run-ext}
 use Rattle.sharing.proofs.Lengths.{refresh-length, scaled-length}
 use Rattle.sharing.proofs.Inverting.{fourOf-at}
-use Rattle.sharing.specs.Bounds.{mostWidth}
+use Rattle.sharing.specs.Bounds.{mostColumns}
 use Rattle.table.specs.Layout.{part}
 use Rattle.table.specs.Steps.{scaleTurn, scaleRow, factorTurn, scaleAll}
 use Rattle.table.specs.Code.Refreshing.{refreshColumn, refreshRow}
-use Rattle.table.proofs.Columns.{Keeps, overColumns-length, overColumns-at}
+use Rattle.table.proofs.Columns.{Keeps, columns-ext, overColumns-length, overColumns-at}
 use Rattle.table.proofs.Lengths.{scale-keeps}
 
 -- the draws of one factor
-pub turn-few : (n columns : ℕ) → n ≤ 4 → columns ≤ mostWidth → columns * (n - 1) ≤ mostWidth * 3
-turn-few n columns h k = mul-le-mul {n₁ = columns} {m₁ = n - 1} {n₂ = mostWidth} {m₂ = 3} k (omega arith)
+pub turn-few : (n columns : ℕ) → n ≤ 4 → columns ≤ mostColumns → columns * (n - 1) ≤ mostColumns * 3
+turn-few n columns h k = mul-le-mul {n₁ = columns} {m₁ = n - 1} {n₂ = mostColumns} {m₂ = 3} k (omega arith)
 
 -- only the first n of the four are read
 pub scaleAll-four : (F : Ops) (n columns : ℕ) (fs ds row : List ℕ) → n ≤ 4
@@ -34,25 +33,6 @@ scaleAll-four F n columns fs ds row h =
     row
 
 -- ---- a row multiplied, then refreshed
-
--- rows whose columns are the same
-columns-ext : (n columns : ℕ) (a b : List ℕ) → length a ≡ columns * n → length b ≡ columns * n
-    → ((u : ℕ) → u < columns → part n (u * n) a ≡ part n (u * n) b) → a ≡ b
-unfolding part
-columns-ext n zero [] [] la lb h = refl
-columns-ext n zero [] (y ∷ b) la lb h = absurd (omega (arith, lb))
-columns-ext n zero (x ∷ a) b la lb h = absurd (omega (arith, la))
-columns-ext n (suc k) a b la lb h =
-    sym (take-append-drop n a)
-    ∙ ap₂ (λ (x y : List ℕ). x ++ y) (first a ∙ h 0 (omega arith) ∙ sym (first b))
-    (columns-ext n k (drop n a) (drop n b) (rw length-drop (omega (arith, la, suc-mul k n))) (rw length-drop (omega (arith, lb, suc-mul k n))) (λ u l. later a u ∙ h (suc u) (omega arith) ∙ sym (later b u)))
-    ∙ take-append-drop n b
-  where
-    first : (s : List ℕ) → take n s ≡ take n (drop (0 * n) s)
-    first s = let e : 0 * n ≡ 0 = omega arith in rw e
-
-    later : (s : List ℕ) (u : ℕ) → take n (drop (u * n) (drop n s)) ≡ take n (drop (suc u * n) s)
-    later s u = let e : n + u * n ≡ suc u * n = omega (arith, suc-mul u n) in rw (drop-drop (u * n) n s, e)
 
 take-map : (g : ℕ → ℕ) (k : ℕ) (s : List ℕ) → take k (map g s) ≡ map g (take k s)
 take-map g zero s = refl

@@ -1,1 +1,2 @@
 pub mod Refreshing
+pub mod Joining

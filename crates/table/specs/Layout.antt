@@ -4,7 +4,7 @@
 use Prim.Native.Nat.{ℕ, _+_, _-_, _*_, _≤_}
 use mathlib.Core.List.{List, _++_}
 use lib.ListN.{take, drop}
-use Rattle.sharing.specs.Bounds.{mostRows, mostWidth}
+use Rattle.sharing.specs.Bounds.{mostRows, mostColumns}
 
 -- rows and columns are numbered from 1; share s of row r, column c is byte ((r-1)(m+1)+(c-1))n+(s-1)
 unfoldable pub cell : ℕ → ℕ → ℕ → ℕ → ℕ
@@ -40,7 +40,7 @@ putRow n w r j row t = put (columnsFrom w j * n) (cell n w r j) row t
 pub record Fits (n rows w : ℕ) : Type 0 where
   pub shares-high : n ≤ 4
   pub rows-high : rows ≤ mostRows
-  pub width-high : w ≤ mostWidth
+  pub width-high : w ≤ mostColumns
 
 -- what a step asks of the sizes, and of a row and a column
 pub record Bounded (n rows w : ℕ) : Type 0 where

@@ -9,10 +9,11 @@ ghost use Rattle.field.specs.Field.{fieldOf, sub};
 ghost use Rattle.sharing.specs.Run.{pairs};
 ghost use Rattle.sharing.specs.Lists.{joined};
 ghost use Rattle.sharing.specs.Rules.{blindedValue, scaled};
-ghost use Rattle.sharing.specs.Bounds.{mostWidth, mostDraws, rowRoom};
+ghost use Rattle.sharing.specs.Bounds.{mostWidth, mostColumns, mostDraws, rowRoom};
 ghost use Rattle.table.specs.Layout.{Fits, Bounded, Inside, cell, tableBytes, entry, columnsFrom};
 ghost use Rattle.table.specs.Steps.{signed, joinRow, joinRows, mix, check, scaleRow, scaleAll, scale, clear, unknownAt, liftTurn, lift};
 ghost use Rattle.table.specs.Code.Refreshing.{refreshRow};
+ghost use Rattle.table.specs.Code.Joining.{joinPart};
 ghost use Rattle.table.specs.Costs.{mixCost, checkCost, scaleCost, scaleNonzero, clearCost, openCost};
 use sharing::Factors;
 
@@ -66,7 +67,41 @@ fn join_row(
     join(f, minus, row, &other[..len]);
 }
 
-// Row a += or -= Product(factor, row b), from column j on. Row b is copied, so that the two rows are separate slices below.
+// At most as many columns as `row` has room for: those from byte p on += or -= Product(factor, those from byte o on). The latter are copied,
+// so that the two are separate slices below.
+fn join_part(
+    f: u64,
+    minus: bool,
+    n: usize,
+    columns: usize,
+    table: &mut [u8],
+    factor: &[u8],
+    p: usize,
+    o: usize,
+    mask: &[u8],
+)
+    requires { ⌜ (2 ≤ n) × (n ≤ 4) × (1 ≤ columns) × (columns ≤ mostWidth) × (length (now factor) ≡ n) × (columns * pairs n ≤ length (now mask)) ⌝ }
+    requires { ⌜ (p + columns * n ≤ length (now table)) × (o + columns * n ≤ length (now table)) ⌝ }
+    ensures { λ r. ⌜ now (table .exit) ≡ joinPart (fieldOf f) minus n columns p o (now (factor .entry)) (now (mask .entry)) (now (table .entry)) ⌝ }
+{
+    let len = columns * n;
+    let mut other = [0u8; row::ROW_ROOM];
+    sharing::copy_into(&mut other[..len], &table[o..o + len]);
+    join_row(
+        f,
+        minus,
+        n,
+        columns,
+        &mut table[p..p + len],
+        &mut other[..],
+        factor,
+        mask,
+    );
+}
+
+// Row a += or -= Product(factor, row b), from column j on. Of more columns than `row` has room for, those behind the first come first: so the
+// last call serves every row. With a third call the compiler no longer inlines this, and each row of a square system takes some 30
+// instructions more.
 fn join_rows(
     f: u64,
     minus: bool,
@@ -86,21 +121,26 @@ fn join_rows(
     ensures { λ r. ⌜ now (table .exit) ≡ joinRows (fieldOf f) minus n w a b j (now (factor .entry)) (now (mask .entry)) (now (table .entry)) ⌝ }
 {
     let columns = w + 1 - j;
-    let len = columns * n;
     let p = cell(n, rows, w, a, j);
     let o = cell(n, rows, w, b, j);
-    let mut other = [0u8; row::ROW_ROOM];
-    sharing::copy_into(&mut other[..len], &table[o..o + len]);
-    join_row(
-        f,
-        minus,
-        n,
-        columns,
-        &mut table[p..p + len],
-        &mut other[..],
-        factor,
-        mask,
-    );
+    let mut k = columns;
+    if sharing::MOST_WIDTH < columns {
+        k = sharing::MOST_WIDTH;
+        let len = k * n;
+        let d = k * sharing::pair_count(n);
+        join_part(
+            f,
+            minus,
+            n,
+            columns - k,
+            table,
+            factor,
+            p + len,
+            o + len,
+            &mask[d..],
+        );
+    }
+    join_part(f, minus, n, k, table, factor, p, o, mask);
 }
 
 // Mix(j,k), where row r takes column j's pivot.
@@ -152,7 +192,7 @@ pub fn check(
 
 // Each entry refreshed, columns in order.
 fn refresh_columns(f: u64, n: usize, columns: usize, row: &mut [u8], mask: &[u8])
-    requires { ⌜ (2 ≤ n) × (n ≤ 4) × (columns ≤ mostWidth) ⌝ }
+    requires { ⌜ (2 ≤ n) × (n ≤ 4) × (columns ≤ mostColumns) ⌝ }
     requires { ⌜ (length (now row) ≡ columns * n) × (columns * (n - 1) ≤ length (now mask)) ⌝ }
     ensures { λ r. ⌜ now (row .exit) ≡ refreshRow (fieldOf f) n columns (now (mask .entry)) (now (row .entry)) ⌝ }
 {
@@ -168,7 +208,7 @@ fn refresh_columns(f: u64, n: usize, columns: usize, row: &mut [u8], mask: &[u8]
 
 // A number for n in each call, so that the compiler unrolls the loop over shares.
 fn refresh_row(f: u64, n: usize, columns: usize, row: &mut [u8], mask: &[u8])
-    requires { ⌜ (2 ≤ n) × (n ≤ 4) × (columns ≤ mostWidth) ⌝ }
+    requires { ⌜ (2 ≤ n) × (n ≤ 4) × (columns ≤ mostColumns) ⌝ }
     requires { ⌜ (length (now row) ≡ columns * n) × (columns * (n - 1) ≤ length (now mask)) ⌝ }
     ensures { λ r. ⌜ now (row .exit) ≡ refreshRow (fieldOf f) n columns (now (mask .entry)) (now (row .entry)) ⌝ }
 {
@@ -194,7 +234,7 @@ fn times(f: u64, row: &mut [u8], z: u8, opened: bool)
 
 // One factor: the whole row times z, then each entry refreshed, as if column by column.
 fn scale_row(f: u64, n: usize, columns: usize, row: &mut [u8], z: u8, opened: bool, mask: &[u8])
-    requires { ⌜ (2 ≤ n) × (n ≤ 4) × (columns ≤ mostWidth) ⌝ }
+    requires { ⌜ (2 ≤ n) × (n ≤ 4) × (columns ≤ mostColumns) ⌝ }
     requires { ⌜ (length (now row) ≡ columns * n) × (columns * (n - 1) ≤ length (now mask)) ⌝ }
     ensures { λ r. ⌜ now (row .exit) ≡ scaleRow (fieldOf f) n columns z (now (mask .entry)) (now (row .entry)) ⌝ }
 {
@@ -204,7 +244,7 @@ fn scale_row(f: u64, n: usize, columns: usize, row: &mut [u8], z: u8, opened: bo
 
 // Each factor in order; the last one is the inverse of what was opened.
 fn scale_all(f: u64, columns: usize, row: &mut [u8], factors: Factors, mask: &[u8])
-    requires { ⌜ (2 ≤ factors .n) × (factors .n ≤ 4) × (columns ≤ mostWidth) ⌝ }
+    requires { ⌜ (2 ≤ factors .n) × (factors .n ≤ 4) × (columns ≤ mostColumns) ⌝ }
     requires { ⌜ (length (now row) ≡ columns * factors .n) × (factors .n * (columns * (factors .n - 1)) ≤ length (now mask)) ⌝ }
     ensures { λ r. ⌜ now (row .exit) ≡ scaleAll (fieldOf f) (factors .n) columns (factors .f) (now (mask .entry)) (now (row .entry)) ⌝ }
 {
@@ -331,7 +371,7 @@ pub fn lift(f: u64, n: usize, rows: usize, w: usize, table: &mut [u8], r: usize,
 
 // The costs of the steps, in 01's closed form; l is the number of columns from j on.
 pub fn mix_cost(f: u64, n: usize, l: usize) -> usize
-    requires { ⌜ (2 ≤ n) × (n ≤ 4) × (l ≤ mostWidth) ⌝ }
+    requires { ⌜ (2 ≤ n) × (n ≤ 4) × (l ≤ mostColumns) ⌝ }
     ensures { λ r. ⌜ (r ≡ mixCost f n l) × (r ≤ mostDraws) ⌝ }
 {
     flag::flag_draws(f, n) + l * sharing::pair_count(n)
@@ -345,14 +385,14 @@ pub fn check_cost(f: u64, n: usize) -> usize
 }
 
 pub fn scale_cost(n: usize, l: usize) -> usize
-    requires { ⌜ (2 ≤ n) × (n ≤ 4) × (l ≤ mostWidth) ⌝ }
+    requires { ⌜ (2 ≤ n) × (n ≤ 4) × (l ≤ mostColumns) ⌝ }
     ensures { λ r. ⌜ (r ≡ scaleCost n l) × (r ≤ mostDraws) ⌝ }
 {
     sharing::inversion_draws(n) + n * (n - 1) * l
 }
 
 pub fn clear_cost(n: usize, l: usize) -> usize
-    requires { ⌜ (2 ≤ n) × (n ≤ 4) × (l ≤ mostWidth) ⌝ }
+    requires { ⌜ (2 ≤ n) × (n ≤ 4) × (l ≤ mostColumns) ⌝ }
     ensures { λ r. ⌜ (r ≡ clearCost n l) × (r ≤ mostDraws) ⌝ }
 {
     l * sharing::pair_count(n)

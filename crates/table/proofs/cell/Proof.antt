@@ -4,18 +4,18 @@ use mathlib.Core.Path.{refl}
 use Prim.Native.Nat.{ℕ, _+_, _-_, _*_, _≤_}
 use native.Mathlib.Omega.{arith}
 use native.Mathlib.Nat.{mul-le-mul}
-use Rattle.sharing.specs.Bounds.{mostRows, mostWidth, mostEntries}
+use Rattle.sharing.specs.Bounds.{mostRows, mostColumns}
 use Rattle.table.specs.Layout.{cell, Fits, Inside}
 use borrow.Author.Needs.{needs}
 use Rattle.table.proofs.cell.Statement.{statement}
 use Rattle.table.proofs.cell.Tie as tie
 
 module _ (n rows w r c : ℕ) (S : Fits n rows w) (P : Inside rows w r c) where
-  row-small : (r - 1) * w ≤ mostEntries
-  row-small = mul-le-mul {n₁ = r - 1} {m₁ = w} {n₂ = mostRows} {m₂ = mostWidth} (omega arith) (omega arith)
+  row-small : (r - 1) * w ≤ mostRows * mostColumns
+  row-small = mul-le-mul {n₁ = r - 1} {m₁ = w} {n₂ = mostRows} {m₂ = mostColumns} (omega arith) (omega arith)
 
-  cell-small : ((r - 1) * w + (c - 1)) * n ≤ (mostEntries + mostWidth) * 4
-  cell-small = mul-le-mul {n₁ = (r - 1) * w + (c - 1)} {m₁ = n} {n₂ = mostEntries + mostWidth} {m₂ = 4} (omega (arith, row-small)) (omega arith)
+  cell-small : ((r - 1) * w + (c - 1)) * n ≤ (mostRows * mostColumns + mostColumns) * 4
+  cell-small = mul-le-mul {n₁ = (r - 1) * w + (c - 1)} {m₁ = n} {n₂ = mostRows * mostColumns + mostColumns} {m₂ = 4} (omega (arith, row-small)) (omega arith)
 
 sub-result : tie.Need-sub-result
 sub-result c = search needs

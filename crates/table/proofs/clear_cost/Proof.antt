@@ -3,7 +3,7 @@
 use mathlib.Core.Path.{_≡_}
 use Prim.Native.Nat.{_*_, _≤_}
 use native.Mathlib.Omega.{arith}
-use Rattle.sharing.specs.Bounds.{mostWidth}
+use Rattle.sharing.specs.Bounds.{mostColumns}
 use Rattle.table.specs.Costs.{clearCost}
 use Rattle.table.proofs.CostBounds.{clear-few}
 use borrow.Author.Needs.{needs}
@@ -14,7 +14,7 @@ clear-is : (c : tie.After-pair-count) → c .before .args .l * c .pair-count .re
 unfolding clearCost
 clear-is c = simp (c .pair-count .ensures)
 
-clear-within : (c : tie.After-pair-count) → c .before .args .l * c .pair-count .result ≤ mostWidth * 6
+clear-within : (c : tie.After-pair-count) → c .before .args .l * c .pair-count .result ≤ mostColumns * 6
 clear-within c = rw (clear-is c) (clear-few (c .before .args .n) (c .before .args .l) (omega arith) (omega arith))
 
 pair-count-requires : tie.Need-pair-count-requires

@@ -1,24 +1,26 @@
--- `table::join_rows` meets its contract: row b is copied, and what it lends is the rest of row a, and the copy.
--- Assumes nothing.
-use mathlib.Core.Path.{_≡_, _∙_, sym}
-use Prim.Native.Nat.{_+_, _*_, _≤_}
+-- `table::join_rows` meets its contract: whether or not columns behind the first k were joined before, joining these k leaves the whole row
+-- joined. Assumes nothing.
+use mathlib.Core.Path.{_≡_, refl, ap, _∙_}
+use mathlib.Core.Logic.{_⊎_, ⊎-elim}
+use mathlib.Core.Bool.{Bool}
+use Prim.Native.Nat.{ℕ, _+_, _-_, _*_, _<_, _≤_}
+use mathlib.Core.List.{List}
 use native.Mathlib.Omega.{arith}
-use mathlib.Core.List.{_++_}
-use lib.ListN.{length, drop, replicate, length-append, length-drop}
-use lib.Seq.{length-take-le}
-use Rattle.sharing.specs.Bounds.{rowRoom}
+use native.Mathlib.Nat.{le-refl, add-mul, mul-le-mul-right}
+use lib.ListN.{length, take, drop}
+use Rattle.field.specs.Field.{Ops, fieldOf}
+use Rattle.sharing.specs.Run.{pairs}
+use Rattle.sharing.specs.Bounds.{mostWidth}
+use Rattle.sharing.proofs.Loops.{rest}
 use Rattle.table.specs.Layout.{columnsFrom}
 use Rattle.table.specs.Steps.{joinRows}
-use Rattle.table.proofs.Parts.{part-lent, put-lent}
-use Rattle.table.proofs.Cells.{row-in}
-use Rattle.table.proofs.Lent.{lent-length, row-small, some-columns}
-use Rattle.table.proofs.Rows.{joinRow-front}
+use Rattle.table.specs.Code.Joining.{joinPart}
+use Rattle.table.proofs.Cells.{row-in, row-apart}
+use Rattle.table.proofs.Lent.{rest-room}
+use Rattle.table.proofs.Joining.{join-add}
 use borrow.Author.Needs.{needs}
 use Rattle.table.proofs.join_rows.Statement.{statement}
 use Rattle.table.proofs.join_rows.Tie as tie
-
-small : (c : tie.After-shared-slice-known2) → let x = c .before .before .before .args in columnsFrom (x .w) (x .j) * x .n ≤ rowRoom
-small c = omega (arith, row-small (c .before .before .before .pre .0) (c .before .before .before .pre .1 .0 .0))
 
 row-a : (c : tie.After-cell2) → let x = c .before .before .before .before .before .args in c .before .cell .result + columnsFrom (x .w) (x .j) * x .n ≤ length (x .table .now)
 row-a c = omega (arith, row-in (c .before .before .before .before .before .args .n) (c .before .before .before .before .before .pre .1 .0 .0))
@@ -26,12 +28,67 @@ row-a c = omega (arith, row-in (c .before .before .before .before .before .args 
 row-b : (c : tie.After-cell2) → let x = c .before .before .before .before .before .args in c .cell2 .result + columnsFrom (x .w) (x .j) * x .n ≤ length (x .table .now)
 row-b c = omega (arith, row-in (c .before .before .before .before .before .args .n) (c .before .before .before .before .before .pre .1 .0 .1))
 
-copied : (c : tie.After-copy-into) → let x = c .before .before .before .before .before .before .before .before .before .args in length (c .copy-into .last .0) ≡ columnsFrom (x .w) (x .j) * x .n
-copied c = c .copy-into .kept .0 ∙ length-take-le _ _ (small (c .before .before .before .before .before .before))
+-- ---- the columns behind the first
 
--- the copy and the room behind it
-whole : (c : tie.After-copy-into) → let x = c .before .before .before .before .before .before .before .before .before .args in length (c .copy-into .last .0 ++ drop (columnsFrom (x .w) (x .j) * x .n) (replicate rowRoom 0)) ≡ rowRoom
-whole c = simp (length-append, length-drop) (omega (arith, copied c, small (c .before .before .before .before .before .before)))
+parts : (columns n : ℕ) → mostWidth < columns → columns * n ≡ mostWidth * n + (columns - mostWidth) * n
+parts columns n h =
+    let e : columns ≡ mostWidth + (columns - mostWidth) = omega arith in
+    ap (λ (k : ℕ). k * n) e ∙ add-mul mostWidth (columns - mostWidth) n
+
+-- the bytes of all columns, in row a and in row b, and their draws
+within : (c : tie.After-pair-count)
+    → let g = c .before .before in
+    let x = g .before .before .before .before .before .args in
+    let k = mostWidth * x .n + (columnsFrom (x .w) (x .j) - mostWidth) * x .n in
+    (g .before .cell .result + k ≤ length (x .table .now)) × (g .cell2 .result + k ≤ length (x .table .now))
+within c =
+    let g = c .before .before in
+    let x = g .before .before .before .before .before .args in
+    rw (← parts (columnsFrom (x .w) (x .j)) (x .n) (c .before .if1 .taken)) (row-a g, row-b g)
+
+draws : (c : tie.After-pair-count) → let x = c .before .before .before .before .before .before .before .args in mostWidth * c .pair-count .result + (columnsFrom (x .w) (x .j) - mostWidth) * pairs (x .n) ≤ length (x .mask .now)
+draws c = let x = c .before .before .before .before .before .before .before .args in
+    omega (arith, parts (columnsFrom (x .w) (x .j)) (pairs (x .n)) (c .before .if1 .taken))
+
+-- ---- the first k columns, of a table s that t has become
+
+record First (F : Ops) (minus : Bool) (n columns p o : ℕ) (factor ds t : List ℕ) (k : ℕ) (s : List ℕ) : Type 0 where
+  some : 1 ≤ k
+  most : k ≤ mostWidth
+  fits : (x : ℕ) → k * x ≤ columns * x
+  size : length s ≡ length t
+  whole : joinPart F minus n k p o factor ds s ≡ joinPart F minus n columns p o factor ds t
+
+module _ {F : Ops} {minus : Bool} {n columns p o : ℕ} {factor ds t : List ℕ} {k : ℕ} {s : List ℕ} where
+  narrow : 1 ≤ columns → columns ≤ mostWidth → s ≡ t → k ≡ columns → First F minus n columns p o factor ds t k s
+  narrow g h es ek = rw (es, ek) (record { some = g; most = h; fits = λ x. le-refl (columns * x); size = refl; whole = refl })
+
+  wide : (d : ℕ) → mostWidth < columns → p + columns * n ≤ length t → (o ≤ p) ⊎ (p + columns * n ≤ o) → length s ≡ length t → d ≡ pairs n
+      → s ≡ joinPart F minus n (columns - mostWidth) (p + mostWidth * n) (o + mostWidth * n) factor (take (length ds - mostWidth * d) (drop (mostWidth * d) ds)) t
+      → k ≡ mostWidth → First F minus n columns p o factor ds t k s
+  wide d h g apart l ed es ek =
+      let e : mostWidth + (columns - mostWidth) ≡ columns = omega arith in
+      record {
+        some = omega arith;
+        most = omega arith;
+        fits = λ x. mul-le-mul-right x (omega arith);
+        size = l;
+        whole =
+            rw (ek, es, rest (mostWidth * d) ds, ed)
+            (rw e at (join-add F minus n factor t mostWidth (columns - mostWidth) p o ds (rw e g) (rw e apart)));
+      }
+
+first : (c : tie.Joined1)
+    → let g = c .before in
+    let x = g .before .before .before .before .before .args in
+    First (fieldOf (x .f)) (x .minus) (x .n) (columnsFrom (x .w) (x .j)) (g .before .cell .result) (g .cell2 .result) (x .factor .now) (x .mask .now) (x .table .now) (c .if1 .k) (c .if1 .table)
+first c =
+    let g = c .before in
+    let q = g .before .before .before .before .before .pre .1 .0 in
+    ⊎-elim
+    (λ w. wide (w .1 .result) (w .0 .taken) (row-a g) (rw (g .before .cell .ensures, g .cell2 .ensures) (row-apart _ (q .1) (q .0))) (ap length (w .7) ∙ w .4 .kept .1 .1 .1 .1 .0) (w .1 .ensures) (w .7 ∙ w .4 .ensures) (w .8))
+    (λ w. narrow (omega arith) (w .0 .left) (w .1) (w .2))
+    (c .if1 .came)
 
 add-columns : tie.Need-add-columns
 add-columns c = search needs
@@ -39,72 +96,67 @@ add-columns c = search needs
 sub-columns : tie.Need-sub-columns
 sub-columns c = search needs
 
-mul-len : tie.Need-mul-len
-mul-len c = omega (arith, small c)
-
 cell-requires : tie.Need-cell-requires
 cell-requires c κs = search needs
 
 cell-requires-2 : tie.Need-cell-requires-2
 cell-requires-2 c κs = search needs
 
-array-borrow-prefix-other : tie.Need-array-borrow-prefix-other
-array-borrow-prefix-other c = small (c .before .before)
+mul-len : tie.Need-mul-len
+mul-len c = search needs
 
-slice-aggregate-copy-into : tie.Need-slice-aggregate-copy-into
-slice-aggregate-copy-into c = sym (length-take-le _ _ (small (c .before .before .before)))
+pair-count-requires : tie.Need-pair-count-requires
+pair-count-requires c κs = search needs
 
-add-copy-into : tie.Need-add-copy-into
-add-copy-into c = omega (arith, row-b (c .before))
+mul-d : tie.Need-mul-d
+mul-d c = omega (arith, draws c)
 
-sub-copy-into : tie.Need-sub-copy-into
-sub-copy-into c = search needs
+sub-join-part : tie.Need-sub-join-part
+sub-join-part c = search needs
 
-part-copy-into-start : tie.Need-part-copy-into-start
-part-copy-into-start c = search needs
+add-join-part : tie.Need-add-join-part
+add-join-part c = omega (arith, within (c .before) .0)
 
-part-copy-into-end : tie.Need-part-copy-into-end
-part-copy-into-end c = omega (arith, row-b (c .before .before))
+add-join-part-2 : tie.Need-add-join-part-2
+add-join-part-2 c = omega (arith, within (c .before) .1)
 
-copy-into-requires : tie.Need-copy-into-requires
-copy-into-requires c κs = rw (lent-length _ _ _ (row-b (c .before .before .before))) (length-take-le _ _ (small (c .before .before .before .before .before)))
+sub-join-part-2 : tie.Need-sub-join-part-2
+sub-join-part-2 c = omega (arith, draws (c .before))
 
-add-join-row : tie.Need-add-join-row
-add-join-row c = omega (arith, row-a (c .before .before .before .before .before))
+part-join-part-start : tie.Need-part-join-part-start
+part-join-part-start c = omega (arith, draws (c .before))
 
-sub-join-row : tie.Need-sub-join-row
-sub-join-row c = search needs
+part-join-part-end : tie.Need-part-join-part-end
+part-join-part-end c = search needs
 
-part-join-row-start : tie.Need-part-join-row-start
-part-join-row-start c = search needs
+join-part-requires : tie.Need-join-part-requires
+join-part-requires c κs =
+    let g = c .before .before in
+    let s = g .before .before .before .before .before .before .before in
+    let q = s .pre in (
+      (q .0 .shares-low, q .0 .fits .shares-high, omega arith, omega arith, q .1 .1 .1, rest-room _ _ (s .args .mask .now) (draws g)),
+      (omega (arith, within g .0), omega (arith, within g .1)),
+    )
 
-part-join-row-end : tie.Need-part-join-row-end
-part-join-row-end c = omega (arith, row-a (c .before .before .before .before .before))
-
-slice-aggregate-join-row : tie.Need-slice-aggregate-join-row
-slice-aggregate-join-row c = sym (whole (c .before .before .before))
-
-join-row-requires : tie.Need-join-row-requires
-join-row-requires c κs =
-    let d = c .before .before .before in
-    let g = d .before .before .before .before in
+join-part-requires-2 : tie.Need-join-part-requires-2
+join-part-requires-2 c κs =
+    let d = first (c .before) in
+    let g = c .before .before in
     let s = g .before .before .before .before .before in
-    let m = some-columns (s .pre .0) (s .pre .1 .0 .0) in (
-      (s .pre .0 .shares-low, s .pre .0 .fits .shares-high, m .0, m .1, s .pre .1 .1 .1),
-      (lent-length _ _ _ (row-a g), whole d, s .pre .1 .1 .2),
+    let q = s .pre in (
+      (q .0 .shares-low, q .0 .fits .shares-high, d .some, d .most, q .1 .1 .1, omega (arith, d .fits (pairs (s .args .n)))),
+      (omega (arith, row-a g, d .fits (s .args .n)), omega (arith, row-b g, d .fits (s .args .n))),
     )
 
 same-length : tie.Need-same-length
-same-length c = search needs
+same-length c = c .before .before .join-part2 .kept .1 .1 .1 .1 .0 ∙ first (c .before .before .before .before) .size
 
 returns : tie.Need-returns
-unfolding joinRows
+unfolding joinRows joinPart
 returns c =
-    let d = c .before .before .before .before .before .before .before in
-    let g = d .before .before .before .before in
-    let x = g .before .before .before .before .before .args in
-    let l = columnsFrom (x .w) (x .j) * x .n in
-    rw (put-lent l (g .before .cell .result) _ (x .table .now), c .before .before .before .join-row .ensures, joinRow-front (x .f) (x .n) (columnsFrom (x .w) (x .j)) (x .minus) (x .mask .now) (x .factor .now) (d .copy-into .last .0) (drop l (replicate rowRoom 0)) _ (copied d), d .copy-into .ensures, part-lent l (g .cell2 .result) (x .table .now), part-lent l (g .before .cell .result) (x .table .now), g .before .cell .ensures, g .cell2 .ensures)
+    let d = c .before .before .before .before in
+    let g = d .before in
+    c .before .before .join-part2 .ensures ∙ first d .whole ∙ rw (g .before .cell .ensures, g .cell2 .ensures)
 
 pub join-rows-spec : {M : Type 1} → statement M
 join-rows-spec =
@@ -112,21 +164,18 @@ join-rows-spec =
     (tie.spec
     add-columns
     sub-columns
-    mul-len
     cell-requires
     cell-requires-2
-    array-borrow-prefix-other
-    slice-aggregate-copy-into
-    add-copy-into
-    sub-copy-into
-    part-copy-into-start
-    part-copy-into-end
-    copy-into-requires
-    add-join-row
-    sub-join-row
-    part-join-row-start
-    part-join-row-end
-    slice-aggregate-join-row
-    join-row-requires
+    mul-len
+    pair-count-requires
+    mul-d
+    sub-join-part
+    add-join-part
+    add-join-part-2
+    sub-join-part-2
+    part-join-part-start
+    part-join-part-end
+    join-part-requires
+    join-part-requires-2
     same-length
     returns)

@@ -8,13 +8,13 @@ use lib.ListN.{length, take, drop}
 use Rattle.field.specs.Field.{fieldOf}
 use Rattle.sharing.specs.Rules.{factors, fourOf, inversionDraws}
 use Rattle.sharing.proofs.Loops.{rest}
-use Rattle.sharing.specs.Bounds.{mostWidth}
+use Rattle.sharing.specs.Bounds.{mostColumns}
 use Rattle.table.specs.Layout.{cell, tableBytes, entry, columnsFrom, rowFrom, putRow, Bounded, Inside}
 use Rattle.table.specs.Costs.{scaleNonzero}
 use Rattle.table.specs.Steps.{scale, scaleAll}
 use Rattle.table.proofs.Parts.{part-lent, put-lent}
 use Rattle.table.proofs.Cells.{cell-in, row-in, entry-length}
-use Rattle.table.proofs.Lent.{lent-length, rest-room, some-columns}
+use Rattle.table.proofs.Lent.{lent-length, rest-room}
 use Rattle.table.proofs.Draws.{scaleCost-is}
 use Rattle.table.proofs.Scaling.{scaleAll-four}
 use borrow.Author.Needs.{needs}
@@ -56,11 +56,11 @@ found c =
 -- what it asks
 asked : (n rows w r j p d k : ℕ) (ds t : List ℕ) → Bounded n rows w → Inside rows w r j → length t ≡ tableBytes n rows w → p ≡ cell n w r j
     → d ≡ inversionDraws n → k ≡ n → inversionDraws n + n * (columnsFrom w j * (n - 1)) ≤ length ds
-    → ((2 ≤ k) × (k ≤ 4) × (columnsFrom w j ≤ mostWidth))
+    → ((2 ≤ k) × (k ≤ 4) × (columnsFrom w j ≤ mostColumns))
     × ((length (take (p + columnsFrom w j * n - p) (drop p t)) ≡ columnsFrom w j * k) × (k * (columnsFrom w j * (k - 1)) ≤ length (take (length ds - d) (drop d ds))))
 asked n rows w r j p d k ds t S P et ep ed ek h =
     rw (ek, ep, ed) (
-      (S .shares-low, S .fits .shares-high, some-columns S P .1),
+      (S .shares-low, S .fits .shares-high, omega arith),
       (lent-length (columnsFrom w j * n) (cell n w r j) t (omega (arith, row-in n P)), rest-room (inversionDraws n) _ ds h),
     )
 
