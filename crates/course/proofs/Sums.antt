@@ -7,7 +7,7 @@ use Prim.Native.Nat.{ℕ, zero, suc, _≤_, _+_, _-_, _*_}
 use native.Mathlib.Omega.{arith}
 use native.Mathlib.Nat.{suc-mul, mul-suc, mul-add, mul-le-mul, mul-le-mul-right}
 use lib.ListN.{length, length-append}
-use Rattle.sharing.specs.Bounds.{mostRows, mostWidth, mostSteps, mostDraws}
+use Rattle.sharing.specs.Bounds.{mostRows, mostColumns, mostSteps, mostDraws}
 use Rattle.table.proofs.CostBounds.{mix-few, check-few, scale-few, clear-few, open-few}
 use Rattle.table.specs.Layout.{columnsFrom}
 use Rattle.table.specs.Costs.{scaleNonzero}
@@ -24,7 +24,7 @@ sum-append f [] b = omega arith
 sum-append f (s ∷ a) b = omega (arith, sum-append f a b)
 
 -- no step takes many
-pub cost-few : (f n w : ℕ) → n ≤ 4 → w ≤ mostWidth → (s : Step) → 1 ≤ columnOf s → costIn f n w s .mask ≤ mostDraws
+pub cost-few : (f n w : ℕ) → n ≤ 4 → w ≤ mostColumns → (s : Step) → 1 ≤ columnOf s → costIn f n w s .mask ≤ mostDraws
 unfolding costIn
 cost-few f n w h g (Mix j k) a = mix-few f n (columnsFrom w j) h (omega arith)
 cost-few f n w h g (Check j) a = check-few f n h
@@ -35,7 +35,7 @@ cost-few f n w h g (Lift j) a = omega arith
 
 -- the length
 
-each-length : (f : ℕ → Step) (a n : ℕ) → length (each f a n) ≡ n
+pub each-length : (f : ℕ → Step) (a n : ℕ) → length (each f a n) ≡ n
 unfolding each
 each-length f a zero = refl
 each-length f a (suc n) = ap suc (each-length f (a + 1) n)

@@ -4,7 +4,7 @@ ghost use mathlib.Core.Bool.{true};
 ghost use mathlib.Core.Bool.{_&&_, _||_};
 ghost use Prim.Native.Nat.{_+_, _*_, _≤_};
 ghost use lib.Dec.{eqb, leb};
-ghost use Rattle.sharing.specs.Bounds.{mostRows, mostWidth};
+ghost use Rattle.sharing.specs.Bounds.{mostRows, mostWidth, mostColumns};
 ghost use Rattle.course.specs.StepList.{Sizes, sized, inList, columnOf, costIn, costOf, stepList, sums};
 ghost use Rattle.course.specs.Next.{firstOf, following, orderOf, fits, nextOf, startOf};
 ghost use Rattle.course.specs.Code.Closed.{flagsOver, rowsOver, partAt, partOf, Stands, Kept, weighed, maskOf, agrees};
@@ -243,7 +243,7 @@ pub fn column_of(s: Step) -> u64
 
 // The draws of a step, on rows of w columns.
 pub fn cost_in(f: u64, n: usize, w: usize, s: Step) -> Draws
-    requires { ⌜ (2 ≤ n) × (n ≤ 4) × (w ≤ mostWidth) ⌝ }
+    requires { ⌜ (2 ≤ n) × (n ≤ 4) × (w ≤ mostColumns) ⌝ }
     requires { ⌜ (1 ≤ columnOf s) × (columnOf s ≤ w) ⌝ }
     ensures { λ r. ⌜ r ≡ costIn f n w s ⌝ }
 {
