@@ -7,7 +7,7 @@ use Prim.Native.Nat.{ℕ}
 use lib.ListN.{getD}
 use Rattle.verdict.specs.declared.Cell.{Cell}
 use Rattle.verdict.specs.declared.Refusal.{Refusal}
-use Rattle.verdict.specs.declared.Refusal.the-variants.{Field, Shares, Size, Input, Target, Entry, MaskShort, NonzeroShort, ZeroDraw, OffList, Ended, ZeroPivot, MaskLong, NonzeroLong, BadTag, CutField, PastEnd, Counters, LiftByte}
+use Rattle.verdict.specs.declared.Refusal.the-variants.{Field, Shares, Size, Input, Target, Entry, MaskShort, NonzeroShort, ZeroDraw, OffList, Ended, ZeroPivot, MaskLong, NonzeroLong, BadTag, CutField, PastEnd, Counters, LiftByte, Columns}
 use Rattle.verdict.specs.Told.{Line}
 use Rattle.verdict.specs.Cells.{cell}
 use Rattle.verdict.specs.Refusals.{paper}
@@ -19,7 +19,7 @@ back l =
     let d : ℕ = getD (l .detail) 0 0 in
     let c : Cell = cell d (getD (l .detail) 1 0) (getD (l .detail) 2 0) in
     getD
-    (Ended ∷ Field d ∷ Shares d ∷ Size d ∷ Input d ∷ Target d ∷ Entry c ∷ MaskShort d ∷ NonzeroShort d ∷ ZeroDraw d ∷ OffList ∷ Ended ∷ ZeroPivot c ∷ Ended ∷ MaskLong d ∷ NonzeroLong d ∷ BadTag d ∷ CutField d ∷ PastEnd d ∷ Counters ∷ LiftByte d ∷ [])
+    (Ended ∷ Field d ∷ Shares d ∷ Size d ∷ Input d ∷ Target d ∷ Entry c ∷ MaskShort d ∷ NonzeroShort d ∷ ZeroDraw d ∷ OffList ∷ Ended ∷ ZeroPivot c ∷ Ended ∷ MaskLong d ∷ NonzeroLong d ∷ BadTag d ∷ CutField d ∷ PastEnd d ∷ Counters ∷ LiftByte d ∷ Columns d ∷ [])
     (l .number) Ended
 
 pub back-paper : (r : Refusal) → back (paper r) ≡ r
@@ -43,6 +43,7 @@ back-paper (CutField i) = refl
 back-paper (PastEnd i) = refl
 back-paper Counters = refl
 back-paper (LiftByte j) = refl
+back-paper (Columns c) = refl
 
 -- one outcome at most: whatever the call is to come to, two answers that say it are one, and so is what is left of what was lent
 abbrev pub Once : {E A : Type 0} → (E → Says A) → Type 0 → Type 0

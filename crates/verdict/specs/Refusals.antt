@@ -1,6 +1,6 @@
--- 01's table of refusals, with R-2's rows and details and the rows of R-3, R-5 and R-7: the number and detail of each, and a definition for each
--- of 1 to 9, 14 and 15, which need no more than the numbers and bytes that they are about. 10 to 12, 19 and 20 are about a progress record, 16
--- to 18 about an exchange record, and stand with the calls.
+-- 01's table of refusals, with R-2's rows and details and the rows of R-3, R-5, R-7 and R-8: the number and detail of each, and a definition for
+-- each of 1 to 9, 14, 15 and 21, which need no more than the numbers and bytes that they are about. 10 to 12, 19 and 20 are about a progress
+-- record, 16 to 18 about an exchange record, and stand with the calls.
 -- Assumes nothing.
 use mathlib.Core.Bool.{Bool, true, false, not, _||_, _&&_}
 use mathlib.Core.List.{List, [], _∷_}
@@ -37,6 +37,7 @@ paper (R.CutField at) = line 17 (at ∷ [])
 paper (R.PastEnd at) = line 18 (at ∷ [])
 paper R.Counters = line 19 (0 ∷ [])
 paper (R.LiftByte j) = line 20 (j ∷ [])
+paper (R.Columns c) = line 21 (c ∷ [])
 
 -- the same as numbers: what a detail has not is 0
 abbrev pub reportOf : Line → Report
@@ -116,6 +117,10 @@ no14 wanted length = refuse 14 (ltb wanted length) (wanted ∷ [])
 -- in a step, nonzero tape too long: length wanted
 unfoldable pub no15 : ℕ → ℕ → Told
 no15 wanted length = refuse 15 (ltb wanted length) (wanted ∷ [])
+
+-- wide: columns below the rows or above 144: the number
+unfoldable pub no21 : ℕ → ℕ → Told
+no21 rows columns = refuse 21 (outside rows 144 columns) (columns ∷ [])
 
 -- ---- how they follow each other
 

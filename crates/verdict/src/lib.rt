@@ -1,11 +1,12 @@
-// What the checks of the calls have in common: 01's table of refusals, with R-2's details and the numbers of R-3, R-5 and R-7, the checks 1 to
-// 9, 14 and 15, and how checks follow each other. Stands on field. Nothing lent is written, and bytes are looked at only where the length is right.
+// What the checks of the calls have in common: 01's table of refusals, with R-2's details and the numbers of R-3, R-5, R-7 and R-8, the checks
+// 1 to 9, 14, 15 and 21, and how checks follow each other. Stands on field. Nothing lent is written, and bytes are looked at only where the
+// length is right.
 ghost use mathlib.Core.Path.{_≡_};
 ghost use mathlib.Core.List.{[], _∷_};
 ghost use Prim.Native.Nat.{_+_, _/_, _%_, _<_, _≤_};
 ghost use Rattle.verdict.specs.Told.{line, when, refused, _or_};
 ghost use Rattle.verdict.specs.Cells.{cell, three, cellAt, NonEmpty};
-ghost use Rattle.verdict.specs.Refusals.{paper, reportOf, outside, firstPlace, tooLarge, zeroDraw, no1, no2, no3, no4, no5, no6, no7, no8, no9, no14, no15, numbers, buffers};
+ghost use Rattle.verdict.specs.Refusals.{paper, reportOf, outside, firstPlace, tooLarge, zeroDraw, no1, no2, no3, no4, no5, no6, no7, no8, no9, no14, no15, no21, numbers, buffers};
 ghost use Rattle.verdict.specs.Code.Verdicts.{told};
 ghost use Rattle.verdict.specs.Code.Scan.{someBits};
 
@@ -57,6 +58,8 @@ pub enum Refusal {
     Counters,
     // 20: the j of the Lift
     LiftByte(u64),
+    // 21: the columns
+    Columns(u64),
 }
 
 // A refusal as numbers: 01's number, and its detail; what the detail has not is 0.
@@ -114,6 +117,7 @@ impl Refusal {
             Refusal::PastEnd(at) => with_detail(18, at as u64),
             Refusal::Counters => with_detail(19, 0),
             Refusal::LiftByte(j) => with_detail(20, j),
+            Refusal::Columns(c) => with_detail(21, c),
         }
     }
 }
@@ -150,7 +154,7 @@ pub fn is_outside(low: u64, high: u64, x: u64) -> bool
     x < low || high < x
 }
 
-// ---- 1 to 9, 14 and 15
+// ---- 1 to 9, 14, 15 and 21
 
 pub fn no1(field: u64) -> Verdict
     ensures { λ r. ⌜ told r ≡ no1 field ⌝ }
@@ -312,6 +316,13 @@ pub fn no9(f: u64, draws: &[u8]) -> Verdict
 {
     let i = first_zero_draw(f, draws);
     refuse_if(i < draws.len(), Refusal::ZeroDraw(i))
+}
+
+// wide: columns below the rows or above 144
+pub fn no21(rows: u64, columns: u64) -> Verdict
+    ensures { λ r. ⌜ told r ≡ no21 rows columns ⌝ }
+{
+    refuse_if(is_outside(rows, 144, columns), Refusal::Columns(columns))
 }
 
 // ---- how they follow each other

@@ -118,6 +118,12 @@ enum-known-self-16 c = search needs
 with-detail-requires-17 : tie.Need-with-detail-requires-17
 with-detail-requires-17 c κs = search needs
 
+enum-known-self-17 : tie.Need-enum-known-self-17
+enum-known-self-17 c = search needs
+
+with-detail-requires-18 : tie.Need-with-detail-requires-18
+with-detail-requires-18 c κs = search needs
+
 returns : tie.Need-returns
 returns c = rw (c .before .before .self .given .1, c .with-detail .ensures)
 
@@ -175,6 +181,9 @@ returns-18 c = rw (c .before .enum-told3 .given .1, c .with-detail16 .ensures)
 returns-19 : tie.Need-returns-19
 returns-19 c = rw (c .before .before .self16 .given .1, c .with-detail17 .ensures)
 
+returns-20 : tie.Need-returns-20
+returns-20 c = rw (c .before .before .self17 .given .1, c .with-detail18 .ensures)
+
 pub report-spec : {M : Type 1} → statement M
 report-spec =
     tie.close
@@ -217,6 +226,8 @@ report-spec =
     with-detail-requires-16
     enum-known-self-16
     with-detail-requires-17
+    enum-known-self-17
+    with-detail-requires-18
     returns
     returns-2
     returns-3
@@ -235,4 +246,5 @@ report-spec =
     returns-16
     returns-17
     returns-18
-    returns-19)
+    returns-19
+    returns-20)
