@@ -18,7 +18,7 @@ use Rattle.course.specs.Taken.{beforeStep, stepsBefore, takenAt}
 use Rattle.course.specs.Next.{recordAt, counted}
 use Rattle.verdict.specs.Told.{Told, passed, refused, line, _or_}
 use Rattle.verdict.specs.Cells.{cellAt}
-use Rattle.verdict.specs.Refusals.{outside, firstPlace, tooLarge, zeroDraw, no1, no2, no3, no4, no5, no6, no7, no8, no9, no14, no15, numbers, buffers}
+use Rattle.verdict.specs.Refusals.{outside, firstPlace, tooLarge, zeroDraw, no1, no2, no3, no4, no5, no6, no7, no8, no9, no14, no15, numbers, buffers, exactly}
 use Rattle.solver.specs.Refusals.{placed, ended, entries, costAt, zeroPivot, columnOf, no10, no11, liftRefused, no20, no12, no19, dealOrder, gatherOrder, solveOrder, standing, placing, lending, stepOrder}
 use Rattle.solver.specs.Calls.{order}
 
@@ -89,7 +89,7 @@ rows =
     ∷ []
 
 pub examples : map says rows ≡ map (λ (r : Row). r .told) rows
-unfolding rows F16 fieldOf sum inversionDraws folds foldDraws cell part tableBytes mixCost scaleCost scaleNonzero inList costOf costIn revealedBy _or_ cellAt outside firstPlace tooLarge zeroDraw no1 no2 no3 no4 no5 no6 no7 no8 no9 no14 no15 numbers placed ended entries costAt zeroPivot columnOf each column columns openings stepList upTo sumOver beforeStep stepsBefore takenAt counted checkCost clearCost openCost no10 no11 liftRefused no20 no12 no19 standing placing lending stepOrder
+unfolding rows F16 fieldOf sum inversionDraws folds foldDraws cell part tableBytes mixCost scaleCost scaleNonzero inList costOf costIn revealedBy _or_ cellAt outside firstPlace tooLarge zeroDraw no1 no2 no3 no4 no5 no6 no7 no8 no9 no14 no15 numbers placed ended entries costAt zeroPivot columnOf each column columns openings stepList upTo sumOver beforeStep stepsBefore takenAt counted checkCost clearCost openCost no10 no11 liftRefused no20 no12 no19 standing placing exactly lending stepOrder
 examples = refl
 
 -- the last byte is 16: of the table that Gather and Solve read, and of Deal's values

@@ -1,33 +1,23 @@
 -- Demands 2 and 3 of the call: whatever meets solve's equation has its meaning, and its counters are 01's sums.
 -- Assumes nothing.
 use mathlib.Core.List.{List}
-use mathlib.Core.Path.{_≡_, ap, _∙_}
+use mathlib.Core.Path.{_≡_}
 use Prim.Native.Nat.{ℕ}
-use lib.ListN.{length, take}
-use lib.Seq.{getD-take, length-take-le}
-use Rattle.field.specs.Field.{draw, fieldOf}
+use lib.ListN.{length}
 use Rattle.course.specs.declared.Order.{Order}
-use Rattle.course.specs.StepList.{fullNonzero}
 use Rattle.walk.specs.declared.Ending.{Ending}
 use Rattle.walk.specs.Act.{Held, held}
 use Rattle.walk.proofs.Counted.{solved-counters}
-use Rattle.meaning.specs.Claims.{NoZero, Given}
+use Rattle.meaning.specs.Claims.{Given}
 use Rattle.meaning.proofs.Meant.{meant}
 use Rattle.verdict.specs.Calls.{Says, Outcome, after}
 use Rattle.solver.specs.Calls.{solveCall, Tells, Taken}
-use Rattle.verdict.proofs.Passes.{nine-says}
 use Rattle.verdict.proofs.Calls.{outcome-holds}
 use Rattle.solver.proofs.Ready.{Solvable, solvable}
 
 module _ (o : Order) (t x mask nonzero : List ℕ) where
-  -- the nonzero draws of a full solve are not 0
-  drawn : Solvable o t (length x) (length mask) nonzero → NoZero o nonzero
-  drawn d k h e =
-      nine-says (o .field) (take (fullNonzero o) nonzero) (d .nonzeros) k (rw (length-take-le (fullNonzero o) nonzero (d .others)) h)
-      (ap (draw (fieldOf (o .field))) (getD-take (fullNonzero o) nonzero k 0 h) ∙ e)
-
   pub lending : Solvable o t (length x) (length mask) nonzero → Given o nonzero t x
-  lending d = record { sizes = d .sizes; table = d .lent .whole; solution = d .lent .room; nonzero = drawn d }
+  lending d = record { sizes = d .sizes; table = d .lent .whole; solution = d .lent .room; nonzero = d .tapes .drawn }
 
   pub means : (a : Says Ending) (h : Held) → after a h ≡ solveCall o (held t x) mask nonzero → Tells o t a (h .solution)
   unfolding solveCall

@@ -6,10 +6,10 @@ use mathlib.Core.Logic.{_⊎_, inl, inr, ⊎-elim}
 use mathlib.Core.Path.{_≡_, refl, sym, _∙_}
 use Prim.Native.Nat.{ℕ, _+_, _-_, _*_, _≤_}
 use native.Mathlib.Decide.{ℕ-discrete}
-use native.Mathlib.Nat.{mul-le-mul, le-antisymm}
+use native.Mathlib.Nat.{mul-le-mul}
 use native.Mathlib.Omega.{arith}
 use lib.Dec.{eqb, ltb}
-use lib.ListN.{length, take}
+use lib.ListN.{length}
 use borrow.Author.Tests.{not-true, not-false, ltb-false, eq-eqb, ne-eqb}
 use Rattle.field.specs.Field.{fieldOf}
 use Rattle.sharing.specs.Rules.{blindedValue}
@@ -32,10 +32,10 @@ use Rattle.course.proofs.Within.{within}
 use Rattle.course.proofs.Closed.{mask-closed, nonzero-closed}
 use Rattle.walk.proofs.Acted.{pivot}
 use Rattle.verdict.specs.Told.{Told, passed, _or_}
-use Rattle.verdict.specs.Refusals.{outside, no4, no5, no6, no7, no8, no9, no14, no15, buffers}
+use Rattle.verdict.specs.Refusals.{outside, no4, no5, no6, no7, no9, buffers}
 use Rattle.solver.specs.Refusals.{placed, ended, entries, wholeTable, tableRows, valueRows, dealDraws, costAt, maskAt, nonzeroAt, zeroPivot, no10, no11, liftRefused, no20, no12, no19, sizes, dealOrder, gatherOrder, tapes, solveOrder, standing, wantedOrder, placing, lending, stepOrder}
 use Rattle.verdict.proofs.Told.{left, right, not-then}
-use Rattle.verdict.proofs.Passes.{numbered, same, enough, six-says, nine-says, Buffers, buffered}
+use Rattle.verdict.proofs.Passes.{numbered, same, enough, six-says, nine-says, Buffers, buffered, Exactly, exactly-says, AtLeast, at-least-says}
 
 -- 1 to 3 passed
 pub sized : (o : Order) → sizes o ≡ passed → Sizes o
@@ -88,24 +88,17 @@ gathering o t target e = record {
 pub record Solvable (o : Order) (t : List ℕ) (solution mask : ℕ) (nonzero : List ℕ) : Type 0 where
   pub sizes : Sizes o
   pub lent : Buffers (o .field) (wholeTable o) t (o .size) solution
-  pub masks : fullMask o ≤ mask
-  pub others : fullNonzero o ≤ length nonzero
-  pub nonzeros : no9 (o .field) (take (fullNonzero o) nonzero) ≡ passed
+  pub tapes : AtLeast (o .field) (fullMask o) (fullNonzero o) mask nonzero
 
 pub solvable : (o : Order) (t : List ℕ) (solution mask : ℕ) (nonzero : List ℕ) → solveOrder o t solution mask nonzero ≡ passed → Solvable o t solution mask nonzero
-unfolding solveOrder tapes no7 no8
+unfolding solveOrder tapes
 solvable o t solution mask nonzero e =
     let a = buffers (o .field) (tableRows o) (wholeTable o) t (o .size) solution in
     let rest : a or tapes o mask nonzero ≡ passed = right (sizes o) _ e in
-    let b = no7 (fullMask o) mask in
-    let d = no8 (fullNonzero o) (length nonzero) in
-    let two : b or d ≡ passed = left (b or d) _ (right a _ rest) in
     record {
       sizes = sized o (left (sizes o) _ e);
       lent = buffered _ _ _ _ _ (tableRows o) (left a _ rest);
-      masks = enough 7 _ (left b d two);
-      others = enough 8 _ (right b d two);
-      nonzeros = right (b or d) _ (right a _ rest);
+      tapes = at-least-says _ _ _ _ _ (right a _ rest);
     }
 
 -- 4, 5, 10 and 11 passed
@@ -176,27 +169,12 @@ placing-says p table solution e =
     }
 
 -- 7, 14, 8, 15 and 9 passed
-pub record Supplied (o : Order) (place : Place) (mask : ℕ) (nonzero : List ℕ) : Type 0 where
-  pub masks : mask ≡ maskAt o place
-  pub others : length nonzero ≡ nonzeroAt o place
-  pub nonzeros : no9 (o .field) nonzero ≡ passed
+abbrev pub Supplied : Order → Place → ℕ → List ℕ → Type 0
+Supplied o place mask nonzero = Exactly (o .field) (maskAt o place) (nonzeroAt o place) mask nonzero
 
 pub lending-says : (o : Order) (place : Place) (mask : ℕ) (nonzero : List ℕ) → lending o place mask nonzero ≡ passed → Supplied o place mask nonzero
-unfolding lending no7 no8 no14 no15
-lending-says o place mask nonzero e =
-    let a = no7 (maskAt o place) mask in
-    let b = no14 (maskAt o place) mask in
-    let c = no8 (nonzeroAt o place) (length nonzero) in
-    let d = no15 (nonzeroAt o place) (length nonzero) in
-    let f = no9 (o .field) nonzero in
-    let four : a or b or c or d ≡ passed = left (a or b or c or d) f e in
-    let three : a or b or c ≡ passed = left (a or b or c) d four in
-    let two : a or b ≡ passed = left (a or b) c three in
-    record {
-      masks = le-antisymm (enough 14 _ (right a b two)) (enough 7 _ (left a b two));
-      others = le-antisymm (enough 15 _ (right (a or b or c) d four)) (enough 8 _ (right (a or b) c three));
-      nonzeros = right (a or b or c or d) f e;
-    }
+unfolding lending
+lending-says o place mask nonzero = exactly-says _ _ _ _ _
 
 -- Step's checks passed
 pub record Going (o : Order) (place : Place) (t : List ℕ) (solution mask : ℕ) (nonzero : List ℕ) : Type 0 where
@@ -315,7 +293,7 @@ gather-ready {o} d = (
 
 pub solve-ready : {o : Order} {t : List ℕ} {solution mask : ℕ} {nonzero : List ℕ} → Solvable o t solution mask nonzero
     → Sizes o × (((length t ≡ wholeTable o) × (solution ≡ o .size)) × ((fullMask o ≤ mask) × (fullNonzero o ≤ length nonzero)))
-solve-ready d = (d .sizes, ((d .lent .whole, d .lent .room), (d .masks, d .others)))
+solve-ready d = (d .sizes, ((d .lent .whole, d .lent .room), (d .tapes .masks, d .tapes .others)))
 
 pub step-ready : {o : Order} {place : Place} {t : List ℕ} {solution mask : ℕ} {nonzero : List ℕ} (s : Step) → place ≡ At s
     → Going o place t solution mask nonzero

@@ -4,7 +4,7 @@ use mathlib.Core.Bool.{Bool, true, false, not}
 use mathlib.Core.List.{List, [], _∷_}
 use Prim.Native.Nat.{ℕ, _+_, _-_, _*_}
 use lib.Dec.{eqb}
-use lib.ListN.{length, take, getD}
+use lib.ListN.{length, getD}
 use Rattle.field.specs.Field.{fieldOf}
 use Rattle.sharing.specs.Rules.{sum}
 use Rattle.table.specs.Layout.{tableBytes, entry}
@@ -20,7 +20,7 @@ use Rattle.course.specs.Next.{orderOf, counted}
 use Rattle.verdict.specs.declared.Rows.{Rows}
 use Rattle.verdict.specs.declared.Rows.the-variants.{Shared, Values}
 use Rattle.verdict.specs.Told.{Told, passed, refuse, _or_}
-use Rattle.verdict.specs.Refusals.{outside, tooLarge, no4, no5, no6, no7, no8, no9, no14, no15, numbers, buffers}
+use Rattle.verdict.specs.Refusals.{outside, tooLarge, no4, no5, no6, no7, numbers, buffers, exactly, atLeast}
 
 -- ---- what the table's words mean
 
@@ -140,8 +140,7 @@ gatherOrder o t target =
 
 -- 7 to 9, over the draws of a full solve
 unfoldable pub tapes : Order → ℕ → List ℕ → Told
-tapes o mask nonzero =
-    no7 (fullMask o) mask or no8 (fullNonzero o) (length nonzero) or no9 (o .field) (take (fullNonzero o) nonzero)
+tapes o mask nonzero = atLeast (o .field) (fullMask o) (fullNonzero o) mask nonzero
 
 -- Solve: 1 to 9
 unfoldable pub solveOrder : Order → List ℕ → ℕ → ℕ → List ℕ → Told
@@ -168,12 +167,7 @@ placing p table solution = no4 (wholeTable (orderOf p)) table or no5 (p .size) s
 
 -- 7, 14, 8, 15, 9, over the draws of the place
 unfoldable pub lending : Order → Place → ℕ → List ℕ → Told
-lending o place mask nonzero =
-    no7 (maskAt o place) mask
-    or no14 (maskAt o place) mask
-    or no8 (nonzeroAt o place) (length nonzero)
-    or no15 (nonzeroAt o place) (length nonzero)
-    or no9 (o .field) nonzero
+lending o place mask nonzero = exactly (o .field) (maskAt o place) (nonzeroAt o place) mask nonzero
 
 -- Step: 1 to 5, 10, 19, 11, 6, 7, 14, 8, 15, 9, 20, 12
 unfoldable pub stepOrder : Progress → List ℕ → List ℕ → ℕ → List ℕ → Told

@@ -2,7 +2,7 @@
 ghost use mathlib.Core.Path.{_≡_};
 ghost use mathlib.Core.Bool.{true, not, _&&_};
 ghost use Prim.Native.Nat.{_≤_};
-ghost use lib.ListN.{length, take};
+ghost use lib.ListN.{length};
 ghost use Rattle.sharing.specs.Bounds.{mostRows, mostEntries};
 ghost use Rattle.course.specs.StepList.{Sizes};
 ghost use Rattle.course.specs.Next.{orderOf, counted};
@@ -117,27 +117,13 @@ pub fn gather(o: Order, table: &[u8], target: usize) -> Verdict
     )
 }
 
-// The first k bytes of s, or all of them where there are fewer.
-fn front(s: &[u8], k: usize) -> &[u8]
-    ensures { λ r. ⌜ now r ≡ take k (now (s .entry)) ⌝ }
-{
-    if k <= s.len() { &s[..k] } else { s }
-}
-
 // 7 to 9
 fn tapes(o: Order, mask: usize, nonzero: &[u8]) -> Verdict
     requires { ⌜ Sizes o ⌝ }
     ensures { λ r. ⌜ told r ≡ tapes o mask (now (nonzero .entry)) ⌝ }
 {
     let full = course::full_counts(o);
-    let draws = full.mask;
-    let others = full.nonzero;
-    let v = verdict::no7(draws, mask);
-    let v = verdict::or_else(v, verdict::no8(others, nonzero.len()));
-    let Verdict::Pass = v else {
-        return v;
-    };
-    verdict::no9(o.field, front(nonzero, others))
+    verdict::at_least(o.field, full.mask, full.nonzero, mask, nonzero)
 }
 
 fn solve_lent(o: Order, table: &[u8], solution: usize, mask: usize, nonzero: &[u8]) -> Verdict
@@ -291,16 +277,7 @@ fn lending(o: Order, p: Place, mask: usize, nonzero: &[u8]) -> Verdict
     ensures { λ r. ⌜ told r ≡ lending o p mask (now (nonzero .entry)) ⌝ }
 {
     let cost = cost_at(o, p);
-    let draws = cost.mask;
-    let others = cost.nonzero;
-    let v = verdict::no7(draws, mask);
-    let v = verdict::or_else(v, verdict::no14(draws, mask));
-    let v = verdict::or_else(v, verdict::no8(others, nonzero.len()));
-    let v = verdict::or_else(v, verdict::no15(others, nonzero.len()));
-    let Verdict::Pass = v else {
-        return v;
-    };
-    verdict::no9(o.field, nonzero)
+    verdict::exactly(o.field, cost.mask, cost.nonzero, mask, nonzero)
 }
 
 // 20: whether the byte that a Lift reads is no element.

@@ -1,13 +1,12 @@
 -- Calls one after the other: what Deal leaves is admitted by Gather, which gives the values back, and by Solve, whose equations are the values.
 -- Assumes nothing.
 use mathlib.Core.List.{List}
-use mathlib.Core.Path.{_≡_, refl, sym, ap, _∙_}
+use mathlib.Core.Path.{_≡_, refl, ap, _∙_}
 use Prim.Native.Nat.{ℕ, _+_, _-_, _*_, _<_, _≤_}
 use native.Mathlib.Nat.{mod-eq-of-lt}
 use native.Mathlib.Omega.{arith}
 use lib.ListN.{length, getD}
-use lib.Seq.{length-take-le, getD-take}
-use Rattle.field.specs.Field.{draw, fieldOf}
+use Rattle.field.specs.Field.{fieldOf}
 use Rattle.sharing.specs.Lists.{Below}
 use Rattle.table.specs.Layout.{tableBytes}
 use Rattle.course.specs.declared.Order.{Order}
@@ -76,12 +75,7 @@ module _ (o : Order) (values mask table : List ℕ) where
     -- Solve then is admitted, with any tapes that are long enough and have no nonzero draw that is 0
     pub solve-after-deal : (x ms zs : List ℕ) → length x ≡ o .size → fullMask o ≤ length ms → fullNonzero o ≤ length zs → NoZero o zs
         → solveOrder o (dealCall o values mask table .left) (length x) (length ms) zs ≡ passed
-    solve-after-deal x ms zs l a b drawn =
-        rw left
-        (solve-passes o (lent .sizes) _ whole elements (length x) (length ms) zs l a b
-        (λ k h e.
-        let g : k < fullNonzero o = rw (length-take-le (fullNonzero o) zs b) at h in
-        drawn k g (ap (draw (fieldOf (o .field))) (sym (getD-take (fullNonzero o) zs k 0 g)) ∙ e)))
+    solve-after-deal x ms zs l a b drawn = rw left (solve-passes o (lent .sizes) _ whole elements (length x) (length ms) zs l a b drawn)
 
     -- and the equations that it solves are those of the values
     pub dealt-values : (r c : ℕ) → 1 ≤ r → r ≤ o .size → 1 ≤ c → c ≤ o .size + 1

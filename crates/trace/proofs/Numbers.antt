@@ -19,7 +19,7 @@ use Rattle.course.specs.Next.{orderOf, counted}
 use Rattle.verdict.specs.declared.Rows.{Rows}
 use Rattle.verdict.specs.declared.Rows.the-variants.{Values}
 use Rattle.verdict.specs.Told.{Told, passed, refused, Line, refuse, _or_}
-use Rattle.verdict.specs.Refusals.{differs, outside, anyPlace, tooLarge, zeroDraw, no1, no2, no3, no4, no5, no6, no7, no8, no9, no14, no15, numbers, buffers}
+use Rattle.verdict.specs.Refusals.{differs, outside, anyPlace, tooLarge, zeroDraw, no1, no2, no3, no4, no5, no6, no7, no8, no9, no14, no15, numbers, buffers, exactly, atLeast}
 use Rattle.solver.specs.Refusals.{wholeTable, tableRows, valueRows, placed, ended, entries, dealDraws, maskAt, nonzeroAt, revealedAt, zeroPivot, no10, no11, liftRefused, no20, no12, no19, sizes, dealOrder, gatherOrder, tapes, solveOrder, standing, wantedOrder, placing, lending, stepOrder}
 use Rattle.solver.specs.Calls.{order}
 use Rattle.solver.proofs.Ready.{lift-or-not}
@@ -154,7 +154,7 @@ gather-gives o t target =
 
 pub solve-gives : (o : Order) (t : List ℕ) (solution mask : ℕ) (nonzero : List ℕ)
     → Gives (Among (1 ∷ 2 ∷ 3 ∷ 4 ∷ 5 ∷ 6 ∷ 7 ∷ 8 ∷ 9 ∷ [])) (solveOrder o t solution mask nonzero)
-unfolding solveOrder tapes oneOf
+unfolding solveOrder tapes atLeast oneOf
 solve-gives o t solution mask nonzero =
     sizes-in _ o refl refl refl
     then (buffers-in _ (o .field) (tableRows o) (wholeTable o) t (o .size) solution refl refl refl
@@ -260,7 +260,7 @@ module _ (r : Progress) (t x : List ℕ) (mask : ℕ) (nonzero : List ℕ) where
   here s n = record { only = λ l e. ap (λ (i : ℕ). getD checks i passed) (n .number l e) ∙ s ∙ e }
 
   pub by-number : Gives AtNumber (stepOrder r t x mask nonzero)
-  unfolding stepOrder numbers placing standing lending
+  unfolding stepOrder numbers placing standing lending exactly
   by-number =
       here refl (one (o .field)) then here refl (two (o .shares)) then here refl (three (o .size))
       then (here refl (four (wholeTable o) (length t)) then here refl (five (o .size) (length x)) then (here refl (ten (o .size) p) then (here refl (nineteen r) then here refl (eleven p)))

@@ -4,7 +4,7 @@
 use mathlib.Core.List.{List, [], _∷_, _++_}
 use mathlib.Core.Logic.{⊎-elim}
 use mathlib.Core.Path.{_≡_, refl, sym, ap, _∙_}
-use Prim.Native.Nat.{ℕ, zero, suc, _+_, _-_, _≤_, _<_}
+use Prim.Native.Nat.{ℕ, zero, suc, _+_, _-_, _≤_}
 use native.Mathlib.Decide.{decLt}
 use native.Mathlib.Nat.{le-refl, mod-eq-of-lt}
 use native.Mathlib.Omega.{arith}
@@ -12,7 +12,6 @@ use lib.ListN.{length, getD, take, drop, length-drop, length-replicate, replicat
 use lib.Seq.{take-add, length-take-le, getD-take, getD-drop, getD-append-add}
 use Rattle.field.specs.Field.{draw, fieldOf}
 use Rattle.field.proofs.Fields.{field-of}
-use Rattle.sharing.specs.Rules.{drawAt}
 use Rattle.sharing.proofs.Draws.{same-longer}
 use Rattle.course.specs.declared.Step.{Step}
 use Rattle.course.specs.declared.Place.{Place}
@@ -31,7 +30,6 @@ use Rattle.verdict.specs.Told.{passed}
 use Rattle.solver.specs.Refusals.{wholeTable, solveOrder, ended, costAt, maskAt, nonzeroAt}
 use Rattle.verdict.specs.Calls.{gives}
 use Rattle.solver.specs.Calls.{solveDoes, solveCall}
-use Rattle.verdict.proofs.Passes.{nine-says}
 use Rattle.solver.proofs.Ready.{Solvable, solvable}
 use Rattle.trace.specs.Trace.{Beside, Host, begin, hostAfter, drive, Refused, Accepted, countsIn, Begins, Agrees, Admitted, Fit, calls, driven, Supplies, Ended}
 use Rattle.trace.proofs.Admitted.{step-passes}
@@ -153,11 +151,6 @@ module _ (o : Order) (t y ms zs : List ℕ) (passes : solveOrder o t (length y) 
   abbrev fresh : Host
   fresh = begin o t y
 
-  not-zero : (k : ℕ) → k < fullNonzero o → drawAt (fieldOf (o .field)) zs k ≡ 0 → ⊥
-  not-zero k h e =
-      nine-says (o .field) (take (fullNonzero o) zs) (checked .nonzeros) k (rw (length-take-le (fullNonzero o) zs (checked .others)) h)
-      (ap (draw (fieldOf (o .field))) (getD-take (fullNonzero o) zs k 0 h) ∙ e)
-
   part-long : (a c full : ℕ) (tape : List ℕ) → a + c ≤ full → full ≤ length tape → length (take c (drop a tape)) ≡ c
   part-long a c full tape h g = length-take-le c (drop a tape) (rw length-drop (omega arith))
 
@@ -172,11 +165,11 @@ module _ (o : Order) (t y ms zs : List ℕ) (passes : solveOrder o t (length y) 
           let r = room-along o (rw e at (g .along)) in
           rw e
           (record {
-            mask = part-long (length (h .mask)) (maskCost o s) (fullMask o) ms (r .1) (checked .masks);
-            nonzero = part-long (length (h .nonzero)) (nonzeroCost o s) (fullNonzero o) zs (r .2) (checked .others);
+            mask = part-long (length (h .mask)) (maskCost o s) (fullMask o) ms (r .1) (checked .tapes .masks);
+            nonzero = part-long (length (h .nonzero)) (nonzeroCost o s) (fullNonzero o) zs (r .2) (checked .tapes .others);
             drawn = λ i l z.
-                let long = part-long (length (h .nonzero)) (nonzeroCost o s) (fullNonzero o) zs (r .2) (checked .others) in
-                not-zero (length (h .nonzero) + i) (omega (arith, r .2))
+                let long = part-long (length (h .nonzero)) (nonzeroCost o s) (fullNonzero o) zs (r .2) (checked .tapes .others) in
+                checked .tapes .drawn (length (h .nonzero) + i) (omega (arith, r .2))
                 (ap (draw (fieldOf (o .field)))
                 (sym (getD-take (nonzeroCost o s) (drop (length (h .nonzero)) zs) i 0 (omega arith) ∙ getD-drop (length (h .nonzero)) zs i 0)) ∙ z);
           })

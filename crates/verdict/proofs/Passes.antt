@@ -6,19 +6,20 @@ use mathlib.Core.Logic.{_⊎_, inl, inr, ⊎-elim}
 use mathlib.Core.Path.{_≡_, refl, sym, ap, _∙_}
 use Prim.Native.Nat.{ℕ, suc, _<_, _≤_}
 use native.Mathlib.Decide.{decLt}
-use native.Mathlib.Nat.{le-refl}
+use native.Mathlib.Nat.{le-refl, le-of-eq, le-antisymm}
 use native.Mathlib.Omega.{arith}
 use lib.Dec.{eqb, ltb}
-use lib.ListN.{length, getD, List·getD-eq-default}
+use lib.ListN.{length, take, getD, List·getD-eq-default}
+use lib.Seq.{length-take-le, getD-take}
 use borrow.Author.Tests.{ltb-false, leb-false, eqb-true, eqb-false, not-false, le-ltb, lt-leb, eq-eqb, ne-eqb}
-use Rattle.field.specs.Field.{fieldOf}
+use Rattle.field.specs.Field.{draw, fieldOf}
 use Rattle.field.proofs.Fields.{field-of}
 use Rattle.sharing.specs.Rules.{drawAt}
 use Rattle.sharing.specs.Lists.{Below}
 use Rattle.sharing.specs.Bounds.{mostRows}
 use Rattle.verdict.specs.declared.Rows.{Rows}
 use Rattle.verdict.specs.Told.{Told, passed, refuse, _or_}
-use Rattle.verdict.specs.Refusals.{differs, outside, firstPlace, anyPlace, tooLarge, zeroDraw, no1, no2, no3, no4, no5, no6, no9, numbers, buffers}
+use Rattle.verdict.specs.Refusals.{differs, outside, firstPlace, anyPlace, tooLarge, zeroDraw, no1, no2, no3, no4, no5, no6, no7, no8, no9, no14, no15, no21, numbers, buffers, exactly, atLeast}
 use Rattle.verdict.proofs.Told.{left, right, not-then}
 use Rattle.verdict.proofs.Scan.{before-first}
 
@@ -30,7 +31,7 @@ x and y = rw (x, y)
 pub unmet : (k : ℕ) {test : Bool} (d : List ℕ) → test ≡ false → refuse k test d ≡ passed
 unmet k d e = rw e
 
--- ---- 1 to 3
+-- ---- 1 to 3, and 21
 
 known : (s t : Bool) → not s && not t ≡ false → (s ≡ true) ⊎ (t ≡ true)
 known true t e = inl refl
@@ -73,6 +74,16 @@ three-says m e = inside 1 mostRows m (not-then _ _ e)
 pub three-passes : (m : ℕ) → 1 ≤ m → m ≤ mostRows → no3 m ≡ passed
 unfolding no3
 three-passes m a b = unmet 3 _ (within 1 mostRows m a b)
+
+pub twenty-one-says : (rows columns : ℕ) → no21 rows columns ≡ passed → (rows ≤ columns) × (columns ≤ 144)
+unfolding no21
+twenty-one-says rows columns e = inside rows 144 columns (not-then _ _ e)
+
+pub twenty-one-passes : (rows columns : ℕ) → rows ≤ columns → columns ≤ 144 → no21 rows columns ≡ passed
+unfolding no21
+twenty-one-passes rows columns a b = unmet 21 _ (within rows 144 columns a b)
+
+-- ---- 1 to 3 together
 
 module _ (f n m : ℕ) where
   pub record Numbers : Type 0 where
@@ -175,3 +186,65 @@ module _ (f wanted : ℕ) (input : List ℕ) (target long : ℕ) where
       → buffers f rows wanted input target long ≡ passed
   unfolding buffers no4 no5
   buffers-pass rows a b c = right-length 4 _ a and right-length 5 _ b and six-passes f rows input c
+
+-- ---- 7 to 9, and 14 and 15, together
+
+module _ (f wantedMask wantedNonzero mask : ℕ) (nonzero : List ℕ) where
+  pub record Exactly : Type 0 where
+    pub masks : mask ≡ wantedMask
+    pub others : length nonzero ≡ wantedNonzero
+    pub nonzeros : no9 f nonzero ≡ passed
+
+  pub exactly-says : exactly f wantedMask wantedNonzero mask nonzero ≡ passed → Exactly
+  unfolding exactly no7 no8 no14 no15
+  exactly-says e =
+      let a = no7 wantedMask mask in
+      let b = no14 wantedMask mask in
+      let c = no8 wantedNonzero (length nonzero) in
+      let d = no15 wantedNonzero (length nonzero) in
+      let four : a or b or c or d ≡ passed = left (a or b or c or d) (no9 f nonzero) e in
+      let three : a or b or c ≡ passed = left (a or b or c) d four in
+      let two : a or b ≡ passed = left (a or b) c three in
+      record {
+        masks = le-antisymm (enough 14 _ (right a b two)) (enough 7 _ (left a b two));
+        others = le-antisymm (enough 15 _ (right (a or b or c) d four)) (enough 8 _ (right (a or b) c three));
+        nonzeros = right (a or b or c or d) (no9 f nonzero) e;
+      }
+
+  pub exactly-passes : Exactly → exactly f wantedMask wantedNonzero mask nonzero ≡ passed
+  unfolding exactly no7 no8 no14 no15
+  exactly-passes x =
+      long-enough 7 _ (le-of-eq (sym (x .masks))) and long-enough 14 _ (le-of-eq (x .masks))
+      and long-enough 8 _ (le-of-eq (sym (x .others))) and long-enough 15 _ (le-of-eq (x .others))
+      and x .nonzeros
+
+  -- 9 looks at the draws wanted, and at none after them
+  pub record AtLeast : Type 0 where
+    pub masks : wantedMask ≤ mask
+    pub others : wantedNonzero ≤ length nonzero
+    pub drawn : (k : ℕ) → k < wantedNonzero → drawAt (fieldOf f) nonzero k ≡ 0 → ⊥
+
+  pub at-least-says : atLeast f wantedMask wantedNonzero mask nonzero ≡ passed → AtLeast
+  unfolding atLeast no7 no8
+  at-least-says e =
+      let a = no7 wantedMask mask in
+      let b = no8 wantedNonzero (length nonzero) in
+      let wanted = take wantedNonzero nonzero in
+      let two : a or b ≡ passed = left (a or b) (no9 f wanted) e in
+      let long : wantedNonzero ≤ length nonzero = enough 8 _ (right a b two) in
+      record {
+        masks = enough 7 _ (left a b two);
+        others = long;
+        drawn = λ k h z.
+            nine-says f wanted (right (a or b) (no9 f wanted) e) k (rw (length-take-le wantedNonzero nonzero long) h)
+            (ap (draw (fieldOf f)) (getD-take wantedNonzero nonzero k 0 h) ∙ z);
+      }
+
+  pub at-least-passes : AtLeast → atLeast f wantedMask wantedNonzero mask nonzero ≡ passed
+  unfolding atLeast no7 no8
+  at-least-passes x =
+      long-enough 7 _ (x .masks) and long-enough 8 _ (x .others)
+      and nine-passes f (take wantedNonzero nonzero)
+      (λ k h z.
+      let g : k < wantedNonzero = rw (length-take-le wantedNonzero nonzero (x .others)) at h in
+      x .drawn k g (ap (draw (fieldOf f)) (sym (getD-take wantedNonzero nonzero k 0 g)) ∙ z))

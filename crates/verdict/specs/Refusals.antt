@@ -6,7 +6,7 @@ use mathlib.Core.Bool.{Bool, true, false, not, _||_, _&&_}
 use mathlib.Core.List.{List, [], _∷_}
 use Prim.Native.Nat.{ℕ, suc}
 use lib.Dec.{eqb, ltb, leb}
-use lib.ListN.{length, getD}
+use lib.ListN.{length, take, getD}
 use Rattle.field.specs.Field.{draw, fieldOf}
 use Rattle.sharing.specs.Bounds.{mostRows}
 use Rattle.verdict.specs.declared.Rows.{Rows}
@@ -131,3 +131,17 @@ numbers field shares size = no1 field or no2 shares or no3 size
 -- 4 to 6, of what is read, and of what is written
 unfoldable pub buffers : ℕ → Rows → ℕ → List ℕ → ℕ → ℕ → Told
 buffers field rows wanted input target length′ = no4 wanted (length input) or no5 target length′ or no6 field rows input
+
+-- 7, 14, 8, 15, 9: a step wants exactly so many draws of each tape
+unfoldable pub exactly : ℕ → ℕ → ℕ → ℕ → List ℕ → Told
+exactly field wantedMask wantedNonzero mask nonzero =
+    no7 wantedMask mask
+    or no14 wantedMask mask
+    or no8 wantedNonzero (length nonzero)
+    or no15 wantedNonzero (length nonzero)
+    or no9 field nonzero
+
+-- 7 to 9: a whole solve wants at least so many
+unfoldable pub atLeast : ℕ → ℕ → ℕ → ℕ → List ℕ → Told
+atLeast field wantedMask wantedNonzero mask nonzero =
+    no7 wantedMask mask or no8 wantedNonzero (length nonzero) or no9 field (take wantedNonzero nonzero)

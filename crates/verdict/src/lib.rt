@@ -4,9 +4,10 @@
 ghost use mathlib.Core.Path.{_≡_};
 ghost use mathlib.Core.List.{[], _∷_};
 ghost use Prim.Native.Nat.{_+_, _/_, _%_, _<_, _≤_};
+ghost use lib.ListN.{take};
 ghost use Rattle.verdict.specs.Told.{line, when, refused, _or_};
 ghost use Rattle.verdict.specs.Cells.{cell, three, cellAt, NonEmpty};
-ghost use Rattle.verdict.specs.Refusals.{paper, reportOf, outside, firstPlace, tooLarge, zeroDraw, no1, no2, no3, no4, no5, no6, no7, no8, no9, no14, no15, no21, numbers, buffers};
+ghost use Rattle.verdict.specs.Refusals.{paper, reportOf, outside, firstPlace, tooLarge, zeroDraw, no1, no2, no3, no4, no5, no6, no7, no8, no9, no14, no15, no21, numbers, buffers, exactly, atLeast};
 ghost use Rattle.verdict.specs.Code.Verdicts.{told};
 ghost use Rattle.verdict.specs.Code.Scan.{someBits};
 
@@ -352,4 +353,49 @@ pub fn buffers(
         return v;
     };
     no6(f, rows, input)
+}
+
+// 7, 14, 8, 15, 9: a step wants exactly so many draws of each tape.
+pub fn exactly(
+    field: u64,
+    wanted_mask: usize,
+    wanted_nonzero: usize,
+    mask: usize,
+    nonzero: &[u8],
+) -> Verdict
+    ensures { λ r. ⌜ told r ≡ exactly field «wanted_mask» «wanted_nonzero» mask (now (nonzero .entry)) ⌝ }
+{
+    let v = no7(wanted_mask, mask);
+    let v = or_else(v, no14(wanted_mask, mask));
+    let v = or_else(v, no8(wanted_nonzero, nonzero.len()));
+    let v = or_else(v, no15(wanted_nonzero, nonzero.len()));
+    let Verdict::Pass = v else {
+        return v;
+    };
+    no9(field, nonzero)
+}
+
+// The first k bytes of s, or all of them where there are fewer.
+fn front(s: &[u8], k: usize) -> &[u8]
+    ensures { λ r. ⌜ now r ≡ take k (now (s .entry)) ⌝ }
+{
+    if k <= s.len() { &s[..k] } else { s }
+}
+
+// 7 to 9: a whole solve wants at least so many.
+pub fn at_least(
+    field: u64,
+    wanted_mask: usize,
+    wanted_nonzero: usize,
+    mask: usize,
+    nonzero: &[u8],
+) -> Verdict
+    ensures { λ r. ⌜ told r ≡ atLeast field «wanted_mask» «wanted_nonzero» mask (now (nonzero .entry)) ⌝ }
+{
+    let v = no7(wanted_mask, mask);
+    let v = or_else(v, no8(wanted_nonzero, nonzero.len()));
+    let Verdict::Pass = v else {
+        return v;
+    };
+    no9(field, front(nonzero, wanted_nonzero))
 }

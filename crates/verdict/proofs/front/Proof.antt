@@ -1,4 +1,4 @@
--- `checks::front` meets its contract: a list that is not longer than k is its own front.
+-- `front` meets its contract: a list that is not longer than k is its own front.
 -- Assumes nothing.
 use mathlib.Core.Path.{sym}
 use Prim.Native.Nat.{_≤_}
@@ -6,8 +6,8 @@ use native.Mathlib.Omega.{arith}
 use lib.Seq.{take-all, length-take-le}
 use lib.ListN.{length}
 use borrow.Author.Needs.{needs}
-use Rattle.solver.proofs.checks.front.Statement.{statement}
-use Rattle.solver.proofs.checks.front.Tie as tie
+use Rattle.verdict.proofs.front.Statement.{statement}
+use Rattle.verdict.proofs.front.Tie as tie
 
 slice-aggregate-result : tie.Need-slice-aggregate-result
 slice-aggregate-result c = sym (length-take-le _ _ (c .before .if1 .taken))
