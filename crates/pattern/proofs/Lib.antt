@@ -1,0 +1,11 @@
+pub mod Loops
+pub mod Slots
+pub mod Ascending
+pub mod Standing
+pub mod Before
+pub mod Placed
+pub mod Taken
+pub mod Enough
+pub mod Counting
+pub mod Moving
+pub mod Examples

@@ -1,0 +1,4 @@
+pub mod Pivots
+pub mod PatternList
+pub mod Next
+pub mod Code
