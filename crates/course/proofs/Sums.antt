@@ -30,7 +30,7 @@ cost-few f n w h g (Mix j k) a = mix-few f n (columnsFrom w j) h (omega arith)
 cost-few f n w h g (Check j) a = check-few f n h
 cost-few f n w h g (Scale j) a = scale-few n (columnsFrom w j) h (omega arith)
 cost-few f n w h g (Clear j k) a = omega (arith, clear-few n (columnsFrom w j) h (omega arith))
-cost-few f n w h g (Open j) a = open-few n h
+cost-few f n w h g (Open j) a = omega (arith, open-few n h)
 cost-few f n w h g (Lift j) a = omega arith
 
 -- the length
