@@ -2,17 +2,17 @@
 -- Assumes nothing.
 use mathlib.Core.Bool.{Bool, true, false, _&&_}
 use mathlib.Core.List.{List, [], _∷_, _++_}
-use mathlib.Core.Path.{_≡_, refl, sym, ap, _∙_}
-use Prim.Native.Nat.{ℕ, zero, suc, _<_, _≤_, _+_, _-_}
+use mathlib.Core.Path.{_≡_, refl, ap, _∙_}
+use Prim.Native.Nat.{ℕ, zero, suc, _<_, _≤_, _+_}
 use native.Mathlib.Omega.{arith}
 use native.Mathlib.Decide.{ℕ-discrete, decLt}
-use lib.Dec.{ltb, leb, eqb}
-use lib.ListN.{length, getD, drop, List·getD-append, List·getD-eq-default, drop-of-length-le}
+use lib.Dec.{leb}
+use lib.ListN.{length, getD, List·getD-append, List·getD-eq-default}
 use lib.Seq.{getD-append-seam}
 use borrow.Author.Tests.{ltb-true, leb-true, eqb-true, lt-ltb, le-ltb, le-leb, eq-eqb, ne-eqb}
 use Rattle.field.specs.Field.{pick}
 use Rattle.course.proofs.Within.{both}
-use Rattle.pattern.specs.Pivots.{before, rowOf, last, has, ascends}
+use Rattle.pattern.specs.Pivots.{before, last, has, ascends}
 
 -- what the test says of the first pivot, and of the others
 pub record Rises (low high p : ℕ) (ps : List ℕ) : Type 0 where

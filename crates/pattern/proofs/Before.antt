@@ -1,26 +1,24 @@
 -- The steps before a place, told by the next place: before the first place there are none, and each step, when it is taken, is added at their end.
 -- So the draws taken so far grow by the step's own, and at an end they are those of the whole pattern.
 -- Assumes nothing.
-use mathlib.Core.Bool.{Bool, true, false}
+use mathlib.Core.Bool.{true, false}
 use mathlib.Core.List.{List, [], _∷_, _++_, append-assoc, append-nil}
-use mathlib.Core.Path.{_≡_, refl, sym, ap, _∙_}
+use mathlib.Core.Path.{_≡_, refl, ap, _∙_}
 use Prim.Native.Nat.{ℕ, zero, suc, _<_, _≤_, _+_, _-_}
 use native.Mathlib.Omega.{arith}
 use native.Mathlib.Decide.{ℕ-discrete}
-use lib.Dec.{ltb, leb, eqb}
-use lib.ListN.{length, getD, drop, drop-of-length-le}
+use lib.ListN.{length, getD, drop-of-length-le}
 use lib.Seq.{drop-cons}
 use borrow.Author.Tests.{eq-eqb, ne-eqb}
-use Rattle.field.specs.Field.{pick}
 use Rattle.course.specs.declared.Step.{Step}
 use Rattle.course.specs.declared.Step.the-variants.{Mix, Check, Scale, Clear, Open, Lift}
 use Rattle.course.specs.StepList.{each}
 use Rattle.course.proofs.Before.{each-snoc, by-less}
 use Rattle.pattern.specs.declared.WideOrder.{WideOrder}
 use Rattle.pattern.specs.declared.WidePlace.{WidePlace}
-use Rattle.pattern.specs.declared.WidePlace.the-variants.{At, Short, Done}
+use Rattle.pattern.specs.declared.WidePlace.the-variants.{At, Done}
 use Rattle.pattern.specs.Pivots.{before, rowOf, last, has, ascends}
-use Rattle.pattern.specs.PatternList.{sought, taken, visit, visits, lifted, openings, patternList, beforeStep, stepsBefore}
+use Rattle.pattern.specs.PatternList.{sought, taken, visit, visits, lifted, openings, beforeStep, stepsBefore}
 use Rattle.pattern.specs.Next.{nextColumn, following}
 use Rattle.pattern.proofs.Ascending.{before-all, before-last, before-at, before-with, has-with, has-not, has-says, last-high}
 use Rattle.pattern.proofs.Standing.{by-most, by-same, Stood, foundAfter, last-in}

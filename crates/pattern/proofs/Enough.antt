@@ -3,15 +3,13 @@
 -- Assumes nothing.
 use mathlib.Core.Bool.{Bool, true, false}
 use mathlib.Core.List.{List, [], _∷_, _++_}
-use mathlib.Core.Path.{_≡_, refl, sym, ap, _∙_}
-use Prim.Native.Nat.{ℕ, zero, suc, _<_, _≤_, _+_, _-_, _*_}
+use mathlib.Core.Path.{_≡_, refl, _∙_}
+use Prim.Native.Nat.{ℕ, zero, suc, _≤_, _+_, _-_, _*_}
 use native.Mathlib.Omega.{arith}
-use native.Mathlib.Decide.{ℕ-discrete}
-use native.Mathlib.Nat.{suc-mul, add-mul, mul-le-mul, mul-le-mul-right}
+use native.Mathlib.Nat.{suc-mul, add-mul, mul-le-mul-right}
 use lib.ListN.{length, drop, length-append, length-drop}
 use Rattle.field.specs.Field.{pick}
-use Rattle.table.specs.Costs.{mixCost, checkCost, scaleCost, clearCost, openCost}
-use Rattle.course.specs.declared.Step.{Step}
+use Rattle.table.specs.Costs.{checkCost, scaleCost, openCost}
 use Rattle.course.specs.declared.Step.the-variants.{Mix, Check, Scale, Clear, Open, Lift}
 use Rattle.course.specs.StepList.{each}
 use Rattle.course.proofs.Sums.{each-length}

@@ -4,20 +4,17 @@
 use mathlib.Core.Bool.{Bool, true, false, _&&_}
 use mathlib.Core.List.{List, [], _∷_, _++_, map}
 use mathlib.Core.Path.{_≡_, refl}
-use Prim.Native.Nat.{ℕ, zero, suc, _-_}
+use Prim.Native.Nat.{ℕ, _-_}
 use lib.ListN.{length, replicate}
 use Rattle.table.specs.Costs.{mixCost, checkCost, scaleCost, scaleNonzero, clearCost, openCost}
 use Rattle.sharing.specs.Rules.{inversionDraws}
 use Rattle.flag.specs.Flag.{folds, foldDraws}
-use Rattle.course.specs.declared.Step.{Step}
 use Rattle.course.specs.declared.Step.the-variants.{Mix, Check, Scale, Clear, Open, Lift}
-use Rattle.course.specs.declared.Draws.{Draws}
 use Rattle.course.specs.declared.Counts.{Counts}
 use Rattle.course.specs.StepList.{each, draws, costIn, sumOver}
 use Rattle.pattern.specs.declared.WideOrder.{WideOrder}
 use Rattle.pattern.specs.declared.WidePlace.{WidePlace}
 use Rattle.pattern.specs.declared.WidePlace.the-variants.{At, Short, Done}
-use Rattle.pattern.specs.declared.Pivots.{Pivots}
 use Rattle.pattern.specs.declared.WideProgress.{WideProgress}
 use Rattle.pattern.specs.Pivots.{before, rowOf, last, has, ascends, zeros, with}
 use Rattle.pattern.specs.PatternList.{costOf, sought, taken, visit, visits, lifted, openings, patternList, sums, beforeStep, stepsBefore, takenAt, everyColumn, wanted}

@@ -1,9 +1,9 @@
 -- A record that 10 and 19 pass, at its place and at the next: the pivots that it keeps, the steps and draws before its place, and that these are
 -- among the draws that the whole solve wants.
 -- Assumes nothing.
-use mathlib.Core.Bool.{Bool, true, false, _&&_}
+use mathlib.Core.Bool.{Bool, true, false}
 use mathlib.Core.List.{List, [], _∷_, _++_}
-use mathlib.Core.Path.{_≡_, refl, sym, ap, _∙_}
+use mathlib.Core.Path.{_≡_, refl, ap, _∙_}
 use Prim.Native.Nat.{ℕ, zero, suc, _<_, _≤_, _+_, _*_}
 use native.Mathlib.Omega.{arith}
 use lib.Dec.{eqb}
@@ -19,12 +19,11 @@ use Rattle.course.proofs.Sums.{sum-append}
 use Rattle.course.proofs.Within.{both}
 use Rattle.pattern.specs.declared.Pivots.{Pivots}
 use Rattle.pattern.specs.declared.WideOrder.{WideOrder}
-use Rattle.pattern.specs.declared.WidePlace.{WidePlace}
-use Rattle.pattern.specs.declared.WidePlace.the-variants.{At, Short, Done}
+use Rattle.pattern.specs.declared.WidePlace.the-variants.{At}
 use Rattle.pattern.specs.declared.WideProgress.{WideProgress}
-use Rattle.pattern.specs.Pivots.{before, last, ascends, zeros, listed, unused, with}
+use Rattle.pattern.specs.Pivots.{last, ascends, zeros, listed, unused, with}
 use Rattle.pattern.specs.PatternList.{Sizes, maskCost, nonzeroCost, stepsBefore, takenAt, wanted}
-use Rattle.pattern.specs.Next.{Earlier, Roomy, following, foundBy, startOf, movedOn, kept, stands, placed, counted}
+use Rattle.pattern.specs.Next.{Earlier, Roomy, foundBy, startOf, movedOn, kept, stands, placed, counted}
 use Rattle.pattern.proofs.Slots as S
 use Rattle.pattern.proofs.Standing.{Kept, kept-says, kept-so, Stood, stands-says, stands-so, foundAfter, next-stood, after-rises, after-stood}
 use Rattle.pattern.proofs.Before.{none-first, added}

@@ -3,7 +3,7 @@
 use mathlib.Core.Bool.{true}
 use mathlib.Core.List.{List}
 use mathlib.Core.Path.{_≡_}
-use Prim.Native.Nat.{ℕ, _<_, _≤_, _+_}
+use Prim.Native.Nat.{ℕ, _<_, _≤_}
 use native.Mathlib.Omega.{arith}
 use lib.ListN.{length}
 use Rattle.sharing.specs.Bounds.{mostRows}
@@ -19,7 +19,7 @@ use Rattle.pattern.specs.Next.{kept, stands}
 use Rattle.pattern.proofs.Ascending.{has-says, not-over}
 use Rattle.pattern.proofs.Slots.{used}
 use Rattle.pattern.proofs.Standing.{Kept, kept-says, Stood, stands-says}
-use Rattle.pattern.proofs.Before.{row-of, some-pivot, in-columns, next-row}
+use Rattle.pattern.proofs.Before.{row-of, in-columns, next-row}
 
 -- the other row is below the step's own
 abbrev pub Below : ℕ → ℕ → Step → Type 0

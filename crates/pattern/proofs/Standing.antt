@@ -1,15 +1,15 @@
 -- What the tests of refusal 10 say of a record's pivots and place, and that a record that they pass still passes them at its next place.
 -- Assumes nothing.
-use mathlib.Core.Bool.{Bool, true, false, _&&_}
+use mathlib.Core.Bool.{Bool, true, false}
 use mathlib.Core.List.{List, [], _∷_, _++_}
-use mathlib.Core.Path.{_≡_, refl, sym, ap, _∙_}
-use Prim.Native.Nat.{ℕ, zero, suc, _<_, _≤_, _+_, _-_}
+use mathlib.Core.Path.{_≡_, refl, ap}
+use Prim.Native.Nat.{ℕ, _<_, _≤_, _+_, _-_}
 use native.Mathlib.Omega.{arith}
 use native.Mathlib.Decide.{ℕ-discrete}
-use lib.Dec.{ltb, leb, eqb}
+use lib.Dec.{leb, eqb}
 use lib.ListN.{length, getD}
 use lib.ListN.{length-append}
-use borrow.Author.Tests.{ltb-true, ltb-false, leb-true, leb-false, eqb-true, eqb-false, lt-ltb, le-leb, eq-eqb, ne-eqb}
+use borrow.Author.Tests.{ltb-true, leb-true, leb-false, eqb-true, eqb-false, lt-ltb, le-leb, eq-eqb, ne-eqb}
 use Rattle.field.specs.Field.{pick}
 use Rattle.course.specs.declared.Step.{Step}
 use Rattle.course.specs.declared.Step.the-variants.{Mix, Check, Scale, Clear, Open, Lift}
@@ -19,8 +19,7 @@ use Rattle.pattern.specs.declared.Pivots.{Pivots}
 use Rattle.pattern.specs.declared.WideOrder.{WideOrder}
 use Rattle.pattern.specs.declared.WidePlace.{WidePlace}
 use Rattle.pattern.specs.declared.WidePlace.the-variants.{At, Short, Done}
-use Rattle.pattern.specs.Pivots.{before, rowOf, last, has, ascends, zeros, listed, unused}
-use Rattle.pattern.specs.PatternList.{Sizes}
+use Rattle.pattern.specs.Pivots.{before, last, has, ascends, zeros, listed, unused}
 use Rattle.pattern.specs.Next.{nextColumn, following, kept, stands}
 use Rattle.pattern.proofs.Ascending.{before-at, before-last, last-at, last-with, last-some, ascends-with, has-says, has-so, over-low}
 

@@ -3,29 +3,27 @@
 -- Assumes nothing.
 use mathlib.Core.Bool.{Bool, true, false}
 use mathlib.Core.List.{List, [], _∷_, _++_}
-use mathlib.Core.Path.{_≡_, refl, sym, ap, _∙_}
-use Prim.Native.Nat.{ℕ, zero, suc, _<_, _≤_, _+_, _-_, _*_}
+use mathlib.Core.Path.{_≡_, refl, ap, _∙_}
+use Prim.Native.Nat.{ℕ, zero, suc, _≤_, _+_, _-_, _*_}
 use native.Mathlib.Omega.{arith}
-use native.Mathlib.Nat.{suc-mul, add-mul, mul-le-mul, mul-le-mul-right, mul-le-mul-left}
-use lib.ListN.{length, drop, length-append, length-drop}
+use native.Mathlib.Nat.{suc-mul, add-mul}
+use lib.ListN.{length, drop, length-drop}
 use Rattle.field.specs.Field.{pick}
 use Rattle.table.specs.Costs.{mixCost, checkCost, scaleCost, scaleNonzero, clearCost, openCost}
 use Rattle.course.specs.declared.Step.{Step}
 use Rattle.course.specs.declared.Step.the-variants.{Mix, Check, Scale, Clear, Open, Lift}
-use Rattle.course.specs.declared.Draws.{Draws}
-use Rattle.course.specs.StepList.{each, draws, costIn, sumOver}
-use Rattle.course.proofs.Sums.{sum-append, each-length}
+use Rattle.course.specs.StepList.{each, costIn, sumOver}
+use Rattle.course.proofs.Sums.{sum-append}
 use Rattle.course.proofs.Closed.{each-sum}
 use Rattle.pattern.specs.declared.WideOrder.{WideOrder}
 use Rattle.pattern.specs.declared.WidePlace.{WidePlace}
 use Rattle.pattern.specs.declared.WidePlace.the-variants.{At, Short, Done}
 use Rattle.pattern.specs.Pivots.{before, rowOf, last, has, ascends}
-use Rattle.pattern.specs.PatternList.{Sizes, costOf, maskCost, nonzeroCost, sought, taken, visit, visits, lifted, openings, patternList, sums, beforeStep, stepsBefore, takenAt, everyColumn, wanted}
+use Rattle.pattern.specs.PatternList.{costOf, maskCost, nonzeroCost, sought, taken, visit, visits, lifted, openings, beforeStep, stepsBefore, takenAt, everyColumn}
 use Rattle.pattern.specs.Code.Columns.{from, mixing, clearing, columnCost, columnsCost, fullCost, stepDone, doneColumns, stepBeyond, beyond, stepScales, scalesBefore}
-use Rattle.pattern.specs.Next.{nextColumn, following}
-use Rattle.pattern.proofs.Ascending.{before-all, before-next, before-none-one, before-few, has-says, last-high}
-use Rattle.pattern.proofs.Standing.{Stood, foundAfter}
-use Rattle.pattern.proofs.Before.{added, none-first, row-of, some-pivot, next-row}
+use Rattle.pattern.proofs.Ascending.{before-all, before-next, before-none-one, last-high}
+use Rattle.pattern.proofs.Standing.{Stood}
+use Rattle.pattern.proofs.Before.{row-of, some-pivot, next-row}
 
 less-one : (k x : ℕ) → 1 ≤ k → (k - 1) * x + x ≡ k * x
 less-one zero x a = absurd (let n : ⊥ = omega arith in n)

@@ -1,8 +1,7 @@
 -- 02, R-8: the record of a wide solve, which "also keeps the pivots found", its next place, and the places that its pivots can have.
 -- Assumes nothing.
-use mathlib.Core.Bool.{Bool, true, false, _&&_}
-use mathlib.Core.List.{List, [], _∷_}
-use mathlib.Core.Path.{_≡_}
+use mathlib.Core.Bool.{Bool, _&&_}
+use mathlib.Core.List.{List, []}
 use Prim.Native.Nat.{ℕ, _+_, _-_, _≤_, _<_}
 use lib.Dec.{ltb, leb, eqb}
 use lib.ListN.{length, getD, replicate}
@@ -15,7 +14,7 @@ use Rattle.pattern.specs.declared.WideOrder.{WideOrder}
 use Rattle.pattern.specs.declared.WidePlace.{WidePlace}
 use Rattle.pattern.specs.declared.WidePlace.the-variants.{At, Short, Done}
 use Rattle.pattern.specs.declared.WideProgress.{WideProgress}
-use Rattle.pattern.specs.Pivots.{before, rowOf, last, has, ascends, zeros, listed, unused, with}
+use Rattle.pattern.specs.Pivots.{before, last, has, ascends, zeros, listed, unused, with}
 use Rattle.pattern.specs.PatternList.{maskCost, nonzeroCost, takenAt}
 
 -- where a column is done and j is next: "on the next row without a pivot, until rows or columns run out"

@@ -2,7 +2,6 @@
 -- pivot, until rows or columns run out." "Open and Lift take the pivot columns from the last back (no Lift for the first)." "Mask draws follow a
 -- sum over the public pivot pattern."
 -- Assumes nothing.
-use mathlib.Core.Bool.{Bool, _&&_}
 use mathlib.Core.List.{List, [], _∷_, _++_}
 use mathlib.Core.Path.{_≡_}
 use Prim.Native.Nat.{ℕ, zero, suc, _+_, _-_, _*_, _≤_}
@@ -19,7 +18,7 @@ use Rattle.course.specs.StepList.{each, draws, costIn, sumOver}
 use Rattle.pattern.specs.declared.WideOrder.{WideOrder}
 use Rattle.pattern.specs.declared.WidePlace.{WidePlace}
 use Rattle.pattern.specs.declared.WidePlace.the-variants.{At, Short, Done}
-use Rattle.pattern.specs.Pivots.{before, rowOf, last, has}
+use Rattle.pattern.specs.Pivots.{rowOf, last, has}
 
 -- the orders that are taken: "F16 systems with 1 to 96 rows and columns from the number of rows to 144"
 pub record Sizes (o : WideOrder) : Type 0 where

@@ -1,11 +1,11 @@
 -- 02, R-8: the pivots that a wide solve has found, as a list of columns, ascending. "The pivots are exactly those columns that the columns before
 -- them don't combine to."
 -- Assumes nothing.
-use mathlib.Core.Bool.{Bool, true, false, _&&_}
-use mathlib.Core.List.{List, [], _∷_, _++_}
+use mathlib.Core.Bool.{Bool, true, _&&_}
+use mathlib.Core.List.{List, [], _∷_}
 use Prim.Native.Nat.{ℕ, _+_}
 use lib.Dec.{ltb, leb, eqb}
-use lib.ListN.{length, getD, set, take, drop}
+use lib.ListN.{getD, set, take, drop}
 use Rattle.field.specs.Field.{pick}
 use Rattle.pattern.specs.declared.Pivots.{Pivots}
 

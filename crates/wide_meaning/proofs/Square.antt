@@ -17,7 +17,7 @@ use Rattle.meaning.proofs.Meant as B
 use Rattle.pattern.specs.declared.WideOrder.{WideOrder}
 use Rattle.pattern.specs.PatternList.{wanted}
 use Rattle.wide_walk.specs.WideWalk.{solved, patternOf}
-use Rattle.wide_meaning.specs.WideMeaning.{valueOf, answerOf, Given, squareOf}
+use Rattle.wide_meaning.specs.WideMeaning.{answerOf, Given, squareOf}
 use Rattle.wide_meaning.proofs.Meant.{meant, left}
 
 module _ (o : WideOrder) (same : o .columns ≡ o .rows) where

@@ -4,7 +4,7 @@
 use mathlib.Core.List.{List, [], _∷_, map}
 use mathlib.Core.Path.{_≡_, refl}
 use Prim.Native.Nat.{ℕ, zero, suc, _+_, _*_, _%_}
-use lib.ListN.{length, replicate}
+use lib.ListN.{replicate}
 use Rattle.field.specs.Poly.{times, left, product as polynomialProduct}
 use Rattle.field.specs.Field.{F16, F256, fieldOf, bits, bitwise, inv, inverseBelow}
 use Rattle.sharing.specs.Run.{run, overPairs}
@@ -22,7 +22,7 @@ use Rattle.pattern.specs.PatternList.{costOf}
 use Rattle.pattern.specs.Next.{nextColumn, following, foundBy, startOf, movedOn}
 use Rattle.wide_walk.specs.declared.WideEnding.{WideEnding}
 use Rattle.wide_walk.specs.declared.WideEnding.the-variants.{Solved, Short}
-use Rattle.wide_walk.specs.WideWalk.{opened, acted, Solution, walk, mostSteps, conclude, solved, patternOf}
+use Rattle.wide_walk.specs.WideWalk.{opened, acted, walk, mostSteps, conclude, solved, patternOf}
 
 -- 1 for solved and 0 for short, with the counters
 abbrev told : WideEnding → List ℕ

@@ -20,7 +20,7 @@ use Rattle.pattern.specs.Pivots.{rowOf, listed}
 use Rattle.pattern.specs.PatternList.{Sizes, patternList, sums, stepsBefore, takenAt}
 use Rattle.pattern.proofs.Placed.{Below}
 use Rattle.pattern.proofs.Moving.{Standing, stepsOf, standing-start, steps-after, standing-after, room-at, places-at}
-use Rattle.wide_walk.specs.WideWalk.{Tally, opened, acted, openedAt, spent, walk, mostSteps, countsOf, endingAt, conclude, begun, ended, solved, patternOf, Counters}
+use Rattle.wide_walk.specs.WideWalk.{Tally, acted, openedAt, spent, walk, mostSteps, countsOf, endingAt, conclude, begun, ended, solved, patternOf, Counters}
 
 -- row k of a step is one of the table's
 pub other-row : (rows r : ℕ) (s : Step) → Below rows r s → OtherRow rows s

@@ -2,7 +2,7 @@
 -- on the tapes from its own first draw on; the record's counters are the places of these draws. "On short the whole solve writes zeros";
 -- otherwise the unknowns of columns that are passed over are 0.
 -- Assumes nothing.
-use mathlib.Core.List.{List, [], _∷_}
+use mathlib.Core.List.{List}
 use mathlib.Core.Path.{_≡_}
 use Prim.Native.Nat.{ℕ, zero, suc, _+_, _*_}
 use lib.ListN.{length, drop, replicate}

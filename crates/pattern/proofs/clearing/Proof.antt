@@ -1,6 +1,5 @@
 -- `pattern::clearing` meets its contract: as many steps as there are rows take no more than so many draws.
 -- Assumes nothing.
-use mathlib.Core.Path.{_≡_}
 use Prim.Native.Nat.{_*_, _≤_}
 use native.Mathlib.Omega.{arith}
 use native.Mathlib.Nat.{mul-le-mul}

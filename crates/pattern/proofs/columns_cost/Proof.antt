@@ -1,10 +1,9 @@
 -- `pattern::columns_cost` meets its contract. The loop's invariant: mask is what columns 1 to c take, and i how many pivots stand among them.
 -- Assumes nothing.
-use mathlib.Core.Bool.{Bool}
 use mathlib.Core.Path.{_≡_, refl, sym, ap, _∙_}
 use Prim.Native.Nat.{_+_, _-_, _*_, _≤_}
 use native.Mathlib.Omega.{arith}
-use Rattle.pattern.specs.Pivots.{before, has}
+use Rattle.pattern.specs.Pivots.{before}
 use Rattle.pattern.specs.Code.Columns.{mostColumn, columnsCost}
 use Rattle.pattern.proofs.Ascending.{before-none-one, before-few}
 use Rattle.pattern.proofs.Counting.{slot-has, columns-turn, slot-turn, most-turn, most-columns}

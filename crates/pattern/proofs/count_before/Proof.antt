@@ -1,6 +1,6 @@
 -- `pattern::count_before` meets its contract. The loop's invariant: what was counted, and those before j from slot i on, are all.
 -- Assumes nothing.
-use mathlib.Core.Path.{_≡_, refl}
+use mathlib.Core.Path.{_≡_}
 use Prim.Native.Nat.{_+_, _-_, _≤_}
 use native.Mathlib.Omega.{arith}
 use lib.ListN.{length, drop}

@@ -1,9 +1,7 @@
 -- `pattern::done_columns` meets its contract.
 -- Assumes nothing.
-use mathlib.Core.Path.{_≡_, refl, sym, ap, _∙_}
+use mathlib.Core.Path.{_≡_}
 use native.Mathlib.Omega.{arith}
-use lib.ListN.{length}
-use Rattle.sharing.specs.Bounds.{mostRows}
 use Rattle.pattern.specs.Pivots.{listed}
 use mathlib.Core.Bool.{true}
 use Rattle.pattern.specs.declared.WidePlace.the-variants.{At}

@@ -1,6 +1,6 @@
 -- `pattern::earlier` meets its contract: the slot before column j's.
 -- Assumes nothing.
-use mathlib.Core.Path.{_≡_, sym, _∙_}
+use mathlib.Core.Path.{sym}
 use native.Mathlib.Omega.{arith}
 use lib.Seq.{getD-take}
 use borrow.Author.Needs.{needs}

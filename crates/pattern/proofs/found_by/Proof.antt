@@ -1,6 +1,6 @@
 -- `pattern::found_by` meets its contract: only a Check finds a pivot.
 -- Assumes nothing.
-use mathlib.Core.Path.{_≡_, refl, sym, ap, _∙_}
+use mathlib.Core.Path.{_≡_, refl}
 use native.Mathlib.Omega.{arith}
 use borrow.Author.Tests.{eq-eqb, ne-eqb}
 use Rattle.course.specs.declared.Step.{Step}

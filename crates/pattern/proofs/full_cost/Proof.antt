@@ -1,6 +1,6 @@
 -- `pattern::full_cost` meets its contract. The loop's invariant: mask is what columns 1 to c take.
 -- Assumes nothing.
-use mathlib.Core.Path.{_≡_, refl, sym, ap, _∙_}
+use mathlib.Core.Path.{_≡_, refl, ap, _∙_}
 use Prim.Native.Nat.{_+_, _-_, _*_, _≤_}
 use native.Mathlib.Omega.{arith}
 use Rattle.pattern.specs.Code.Columns.{mostColumn, fullCost}

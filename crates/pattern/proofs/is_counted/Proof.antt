@@ -1,12 +1,11 @@
 -- `pattern::is_counted` meets its contract: the second counter is looked at where the first matches.
 -- Assumes nothing.
-use mathlib.Core.Path.{_≡_, refl, sym, _∙_}
+use mathlib.Core.Path.{_≡_}
 use mathlib.Core.Bool.{true}
 use borrow.Author.Tests.{eq-eqb, ne-eqb}
 use Rattle.course.proofs.Within.{both}
 use Rattle.pattern.specs.Pivots.{listed}
 use Rattle.pattern.specs.Next.{kept, stands, placed, counted}
-use borrow.Author.Needs.{needs}
 use Rattle.pattern.proofs.is_counted.Statement.{statement}
 use Rattle.pattern.proofs.is_counted.Tie as tie
 

@@ -1,13 +1,12 @@
 -- `pattern::mask_taken` meets its contract: the draws of the columns that are done, and those beyond them.
 -- Assumes nothing.
-use mathlib.Core.Path.{_≡_, refl, sym, ap, _∙_}
+use mathlib.Core.Path.{_≡_, sym}
 use native.Mathlib.Omega.{arith}
 use lib.ListN.{length}
 use Rattle.sharing.specs.Bounds.{mostRows}
 use Rattle.pattern.specs.Pivots.{listed}
 use Prim.Native.Nat.{_≤_}
 use lib.Seq.{length-take-le}
-use Rattle.pattern.specs.declared.WidePlace.{WidePlace}
 use Rattle.pattern.proofs.Standing.{Kept, kept-says, stands-says}
 use Rattle.pattern.proofs.Taken.{taken-mask}
 use borrow.Author.Needs.{needs}

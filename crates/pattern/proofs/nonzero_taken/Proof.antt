@@ -1,8 +1,7 @@
 -- `pattern::nonzero_taken` meets its contract.
 -- Assumes nothing.
-use mathlib.Core.Path.{_≡_, refl, sym, ap, _∙_}
+use mathlib.Core.Path.{sym}
 use native.Mathlib.Omega.{arith}
-use lib.ListN.{length}
 use Rattle.sharing.specs.Bounds.{mostRows}
 use Rattle.pattern.specs.Pivots.{listed}
 use Prim.Native.Nat.{_-_}

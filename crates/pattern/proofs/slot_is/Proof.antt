@@ -1,6 +1,5 @@
 -- `pattern::slot_is` meets its contract: behind the last slot there is 0, which column j is not.
 -- Assumes nothing.
-use mathlib.Core.Path.{sym, _∙_}
 use native.Mathlib.Omega.{arith}
 use lib.ListN.{List·getD-eq-default}
 use borrow.Author.Needs.{needs}

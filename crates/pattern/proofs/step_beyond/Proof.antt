@@ -1,10 +1,10 @@
 -- `pattern::step_beyond` meets its contract: what it takes away is there, as 10 passes the step.
 -- Assumes nothing.
-use mathlib.Core.Path.{_≡_, sym, ap, _∙_}
+use mathlib.Core.Path.{_≡_}
 use native.Mathlib.Omega.{arith}
 use lib.ListN.{length}
 use Rattle.sharing.specs.Bounds.{mostRows}
-use Rattle.pattern.specs.Pivots.{rowOf, listed}
+use Rattle.pattern.specs.Pivots.{listed}
 use Rattle.pattern.specs.Code.Columns.{stepBeyond}
 use Rattle.pattern.proofs.Standing.{kept-says}
 use Rattle.pattern.proofs.Placed.{Places, placed-at}

@@ -1,10 +1,10 @@
 -- `pattern::step_done_columns` meets its contract.
 -- Assumes nothing.
-use mathlib.Core.Path.{_≡_, sym, ap, _∙_}
+use mathlib.Core.Path.{_≡_}
 use native.Mathlib.Omega.{arith}
 use lib.ListN.{length}
 use Rattle.sharing.specs.Bounds.{mostRows}
-use Rattle.pattern.specs.Pivots.{rowOf, listed}
+use Rattle.pattern.specs.Pivots.{listed}
 use Rattle.pattern.specs.Code.Columns.{stepDone}
 use Rattle.pattern.proofs.Ascending.{last-high}
 use Rattle.pattern.proofs.Standing.{kept-says}

@@ -1,9 +1,8 @@
 -- `wide_walk::solve` meets its contract. The loop's invariant: the solve is sound, and comes to the end of the whole solve. The measure is how many steps
 -- are left of the most that there can be.
 -- Assumes nothing.
-use mathlib.Core.Bool.{true}
-use mathlib.Core.Path.{_≡_, refl, sym, ap, _∙_, subst}
-use Prim.Native.Nat.{ℕ, _+_, _-_, _*_, _≤_}
+use mathlib.Core.Path.{sym, ap, _∙_, subst}
+use Prim.Native.Nat.{ℕ, _-_}
 use native.Mathlib.Omega.{arith}
 use lib.ListN.{length, replicate, length-drop, length-replicate}
 use Rattle.sharing.proofs.Loops.{rest}

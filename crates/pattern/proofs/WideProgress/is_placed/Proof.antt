@@ -1,7 +1,6 @@
 -- `pattern::WideProgress::is_placed` meets its contract: the place is looked at where the pivots are kept.
 -- Assumes nothing.
 use mathlib.Core.Path.{sym, _∙_}
-use native.Mathlib.Omega.{arith}
 use borrow.Author.Tests.{not-true, not-false}
 use Rattle.pattern.specs.Next.{placed}
 use Rattle.pattern.proofs.Standing.{kept-says}

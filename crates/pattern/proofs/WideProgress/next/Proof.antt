@@ -1,11 +1,10 @@
 -- `pattern::WideProgress::next` meets its contract: 10 passes the record, so that its step has a place, and a slot for its pivot.
 -- Assumes nothing.
-use mathlib.Core.Path.{_≡_, sym, ap, _∙_}
+use mathlib.Core.Path.{_≡_}
 use native.Mathlib.Omega.{arith}
 use lib.ListN.{length}
 use Rattle.sharing.specs.Bounds.{mostRows}
-use Rattle.pattern.specs.Pivots.{rowOf, listed}
-use Rattle.course.specs.declared.Step.{Step}
+use Rattle.pattern.specs.Pivots.{listed}
 use Rattle.pattern.specs.declared.WidePlace.the-variants.{At}
 use Rattle.pattern.specs.Next.{movedOn}
 use Rattle.pattern.proofs.Standing.{Kept, Stood}

@@ -1,0 +1,2 @@
+pub mod WideRefusals
+pub mod WideCalls
