@@ -15,7 +15,8 @@ use Rattle.verdict.specs.Told.{passed}
 use Rattle.verdict.proofs.Passes.{six-passes}
 use Rattle.solver.specs.Refusals.{tableRows, no20}
 use Rattle.solver.proofs.Ready.{lift-or-not}
-use Rattle.trace.specs.Trace.{Beside, Host, orderIn, Never}
+use Rattle.trace.specs.Driving.{Beside}
+use Rattle.trace.specs.Trace.{Host, orderIn, Never}
 use Rattle.trace.proofs.Pivot.{lift-passes}
 use Rattle.trace.proofs.Trace.{never}
 

@@ -19,7 +19,8 @@ use Rattle.verdict.specs.Told.{Told, passed, refused, Line}
 use Rattle.solver.specs.Refusals.{placed, ended, costAt, no20, stepOrder}
 use Rattle.verdict.specs.Calls.{refuses, call}
 use Rattle.solver.specs.Calls.{stepDoes, stepCall}
-use Rattle.trace.specs.Trace.{Beside, Host, called, lends, hostAfter, orderIn, Refused, Accepted}
+use Rattle.trace.specs.Driving.{Beside}
+use Rattle.trace.specs.Trace.{Host, called, lends, hostAfter, orderIn, Refused, Accepted}
 use Rattle.verdict.proofs.Passes.{nine-says}
 use Rattle.solver.proofs.Ready.{Going, going, going-matched, going-lifts}
 

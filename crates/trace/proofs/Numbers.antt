@@ -28,15 +28,15 @@ use Rattle.exchange.specs.Record.{rows, tableLength, recordLength, lengthAt, en
 use Rattle.exchange.specs.Calls.{writeOrder, no18, readOrder}
 use Rattle.trace.specs.Numbers.{oneOf, Among, Gives}
 
-no-refusal : {l : Line} → passed ≡ refused l → ⊥
+pub no-refusal : {l : Line} → passed ≡ refused l → ⊥
 no-refusal e = let z : _≡_ {A = ℕ} 0 1 = cc in omega arith
 
 -- ---- each check gives its own number
 
-record Numbered (k : ℕ) (v : Told) : Type 0 where
-  number : (l : Line) → v ≡ refused l → l .number ≡ k
+pub record Numbered (k : ℕ) (v : Told) : Type 0 where
+  pub number : (l : Line) → v ≡ refused l → l .number ≡ k
 
-numbered : (k : ℕ) (test : Bool) (d : List ℕ) → Numbered k (refuse k test d)
+pub numbered : (k : ℕ) (test : Bool) (d : List ℕ) → Numbered k (refuse k test d)
 numbered k true d = record { number = λ l e. cc }
 numbered k false d = record { number = λ l e. absurd (no-refusal e) }
 
@@ -44,35 +44,35 @@ one : (f : ℕ) → Numbered 1 (no1 f)
 unfolding no1
 one f = numbered 1 (differs f 16 && differs f 256) _
 
-two : (n : ℕ) → Numbered 2 (no2 n)
+pub two : (n : ℕ) → Numbered 2 (no2 n)
 unfolding no2
 two n = numbered 2 (outside 2 4 n) _
 
-three : (m : ℕ) → Numbered 3 (no3 m)
+pub three : (m : ℕ) → Numbered 3 (no3 m)
 unfolding no3
 three m = numbered 3 (outside 1 mostRows m) _
 
-four : (wanted long : ℕ) → Numbered 4 (no4 wanted long)
+pub four : (wanted long : ℕ) → Numbered 4 (no4 wanted long)
 unfolding no4
 four wanted long = numbered 4 (differs long wanted) _
 
-five : (wanted long : ℕ) → Numbered 5 (no5 wanted long)
+pub five : (wanted long : ℕ) → Numbered 5 (no5 wanted long)
 unfolding no5
 five wanted long = numbered 5 (differs long wanted) _
 
-six : (f : ℕ) (rows : Rows) (input : List ℕ) → Numbered 6 (no6 f rows input)
+pub six : (f : ℕ) (rows : Rows) (input : List ℕ) → Numbered 6 (no6 f rows input)
 unfolding no6
 six f rows input = numbered 6 (anyPlace (tooLarge f) input) _
 
-seven : (wanted long : ℕ) → Numbered 7 (no7 wanted long)
+pub seven : (wanted long : ℕ) → Numbered 7 (no7 wanted long)
 unfolding no7
 seven wanted long = numbered 7 (ltb long wanted) _
 
-eight : (wanted long : ℕ) → Numbered 8 (no8 wanted long)
+pub eight : (wanted long : ℕ) → Numbered 8 (no8 wanted long)
 unfolding no8
 eight wanted long = numbered 8 (ltb long wanted) _
 
-nine : (f : ℕ) (draws : List ℕ) → Numbered 9 (no9 f draws)
+pub nine : (f : ℕ) (draws : List ℕ) → Numbered 9 (no9 f draws)
 unfolding no9
 nine f draws = numbered 9 (anyPlace (zeroDraw f) draws) _
 
@@ -99,11 +99,11 @@ twenty o p x =
     (λ (e : no20 o p x ≡ passed). rw e (record { number = λ l g. absurd (no-refusal g) }))
     (lift-or-not o p x)
 
-fourteen : (wanted long : ℕ) → Numbered 14 (no14 wanted long)
+pub fourteen : (wanted long : ℕ) → Numbered 14 (no14 wanted long)
 unfolding no14
 fourteen wanted long = numbered 14 (ltb wanted long) _
 
-fifteen : (wanted long : ℕ) → Numbered 15 (no15 wanted long)
+pub fifteen : (wanted long : ℕ) → Numbered 15 (no15 wanted long)
 unfolding no15
 fifteen wanted long = numbered 15 (ltb wanted long) _
 
@@ -116,10 +116,10 @@ module _ {P : Line → Type 0} where
   by-first (refused l) g h = g
 
   infixl 20 _then_
-  _then_ : {a b : Told} → Gives P a → Gives P b → Gives P (a or b)
+  pub _then_ : {a b : Told} → Gives P a → Gives P b → Gives P (a or b)
   _then_ {a} g h = by-first a g h
 
-in-list : (ns : List ℕ) {k : ℕ} {v : Told} → oneOf k ns ≡ true → Numbered k v → Gives (Among ns) v
+pub in-list : (ns : List ℕ) {k : ℕ} {v : Told} → oneOf k ns ≡ true → Numbered k v → Gives (Among ns) v
 unfolding Among
 in-list ns i n = record { only = λ l e. rw (n .number l e) i }
 
@@ -219,6 +219,23 @@ each-at P [] e k l g = absurd (no-refusal g)
 each-at P (v ∷ vs) e zero l g = ⊎-elim (λ (h : v ≡ passed). absurd (no-refusal (sym h ∙ g))) (λ (p : P 0). p) (e .0)
 each-at P (v ∷ vs) e (suc k) l g = each-at (λ (j : ℕ). P (suc j)) vs (e .1) k l g
 
+-- the checks of an order, each at its number: what it is refused by is what the check of that number says
+abbrev pub AtNumber : List Told → Line → Type 0
+AtNumber checks l = getD checks (l .number) passed ≡ refused l
+
+module _ (checks : List Told) where
+  pub here : {k : ℕ} {v : Told} → getD checks k passed ≡ v → Numbered k v → Gives (AtNumber checks) v
+  here s n = record { only = λ l e. ap (λ (i : ℕ). getD checks i passed) (n .number l e) ∙ s ∙ e }
+
+  module _ {v : Told} (by : Gives (AtNumber checks) v) where
+    -- a number whose check passes is not given, wherever it stands in the order
+    pub not-given : (k : ℕ) → getD checks k passed ≡ passed → (l : Line) → v ≡ refused l → l .number ≡ k → ⊥
+    not-given k e l g same = no-refusal (sym e ∙ ap (λ (n : ℕ). getD checks n passed) (sym same) ∙ by .only l g)
+
+    -- and what holds of each number whose check may refuse holds of the one that is given
+    pub given : (P : ℕ → Type 0) → Each P checks → (l : Line) → v ≡ refused l → P (l .number)
+    given P each l g = each-at P checks each (l .number) l (by .only l g)
+
 module _ (r : Progress) (t x : List ℕ) (mask : ℕ) (nonzero : List ℕ) where
   abbrev o : Order
   o = orderOf r
@@ -252,30 +269,18 @@ module _ (r : Progress) (t x : List ℕ) (mask : ℕ) (nonzero : List ℕ) where
       ∷ no20 o p x
       ∷ []
 
-  -- what it is refused by is what the check of that number says
-  abbrev pub AtNumber : Line → Type 0
-  AtNumber l = getD checks (l .number) passed ≡ refused l
+  at : {k : ℕ} {v : Told} → getD checks k passed ≡ v → Numbered k v → Gives (AtNumber checks) v
+  at = here checks
 
-  here : {k : ℕ} {v : Told} → getD checks k passed ≡ v → Numbered k v → Gives AtNumber v
-  here s n = record { only = λ l e. ap (λ (i : ℕ). getD checks i passed) (n .number l e) ∙ s ∙ e }
-
-  pub by-number : Gives AtNumber (stepOrder r t x mask nonzero)
+  pub by-number : Gives (AtNumber checks) (stepOrder r t x mask nonzero)
   unfolding stepOrder numbers placing standing lending exactly
   by-number =
-      here refl (one (o .field)) then here refl (two (o .shares)) then here refl (three (o .size))
-      then (here refl (four (wholeTable o) (length t)) then here refl (five (o .size) (length x)) then (here refl (ten (o .size) p) then (here refl (nineteen r) then here refl (eleven p)))
-      then (here refl (six (o .field) (tableRows o) t)
-      then (here refl (seven (maskAt o p) mask)
-      then here refl (fourteen (maskAt o p) mask)
-      then here refl (eight (nonzeroAt o p) (length nonzero))
-      then here refl (fifteen (nonzeroAt o p) (length nonzero))
-      then here refl (nine (o .field) nonzero)
-      then (here refl (twenty o p x) then here refl (twelve o p t)))))
-
-  -- a number whose check passes is not given, wherever it stands in the order
-  pub not-given : (k : ℕ) → getD checks k passed ≡ passed → (l : Line) → stepOrder r t x mask nonzero ≡ refused l → l .number ≡ k → ⊥
-  not-given k e l g same = no-refusal (sym e ∙ ap (λ (n : ℕ). getD checks n passed) (sym same) ∙ by-number .only l g)
-
-  -- and what holds of each number whose check may refuse holds of the one that is given
-  pub given : (P : ℕ → Type 0) → Each P checks → (l : Line) → stepOrder r t x mask nonzero ≡ refused l → P (l .number)
-  given P each l g = each-at P checks each (l .number) l (by-number .only l g)
+      at refl (one (o .field)) then at refl (two (o .shares)) then at refl (three (o .size))
+      then (at refl (four (wholeTable o) (length t)) then at refl (five (o .size) (length x)) then (at refl (ten (o .size) p) then (at refl (nineteen r) then at refl (eleven p)))
+      then (at refl (six (o .field) (tableRows o) t)
+      then (at refl (seven (maskAt o p) mask)
+      then at refl (fourteen (maskAt o p) mask)
+      then at refl (eight (nonzeroAt o p) (length nonzero))
+      then at refl (fifteen (nonzeroAt o p) (length nonzero))
+      then at refl (nine (o .field) nonzero)
+      then (at refl (twenty o p x) then at refl (twelve o p t)))))

@@ -22,12 +22,13 @@ use Rattle.course.specs.declared.Step.the-variants.{Mix, Check, Scale, Clear, O
 use Rattle.course.specs.declared.Place.{Place}
 use Rattle.course.specs.declared.Place.the-variants.{At, Stopped, Done}
 use Rattle.course.specs.declared.Order.{Order}
-use Rattle.course.specs.StepList.{inList, costOf, costIn, maskCost, nonzeroCost, revealedBy}
+use Rattle.course.specs.StepList.{inList, columnOf, costOf, costIn, maskCost, nonzeroCost, revealedBy}
 use Rattle.course.specs.Next.{firstOf, following}
-use Rattle.course.proofs.Within.{within}
+use Rattle.course.proofs.Within.{within, column-in}
 use Rattle.course.proofs.Along.{either}
 use Rattle.course.proofs.Before.{by-less}
-use Rattle.walk.specs.Act.{held, stepOpens, stepLeaves, opened, written, acted}
+use Rattle.walk.specs.Act.{held, Row, OtherRow, stepOpens, stepLeaves, opened, written, acted}
+use Rattle.walk.proofs.Acted.{inside, other-row}
 
 -- an entry of [A | b]
 pub in-table : {m r c : ℕ} → 1 ≤ r → r ≤ m → 1 ≤ c → c ≤ m + 1 → Inside m (m + 1) r c
@@ -118,34 +119,43 @@ module _ (m : ℕ) where
 
 -- ---- one step
 
+-- on a table of so many rows of w columns, where row r takes the column's pivot
+module _ (f n rows w r : ℕ) (R : Row rows r) (t : List ℕ) (whole : length t ≡ tableBytes n rows w) {ds es : List ℕ} where
+  pub opens-own : (s : Step) → 1 ≤ columnOf s → columnOf s < w → SameDraws (fieldOf f) (costIn f n w s .mask) ds es → (x y : List ℕ)
+      → stepOpens f n w r s ds (held t x) ≡ stepOpens f n w r s es (held t y)
+  unfolding stepOpens costIn revealedBy
+  opens-own (Mix j k) a b d x y = refl
+  opens-own (Check j) a b d x y = check-draws f n rows w t whole (inside R a (omega arith)) d
+  opens-own (Scale j) a b d x y = refl
+  opens-own (Clear j k) a b d x y = refl
+  opens-own (Open j) a b d x y = opens-draws f n rows w t whole (inside R (omega arith) (le-refl w)) d
+  opens-own (Lift j) a b d x y = refl
+
+  pub leaves-own : (s : Step) → OtherRow rows s → 1 ≤ columnOf s → columnOf s < w → SameDraws (fieldOf f) (costIn f n w s .mask) ds es
+      → {nz mz : List ℕ} → SameDraws (fieldOf f) (costIn f n w s .nonzero) nz mz → (x y : List ℕ) → SameRead s x y
+      → stepLeaves f n w r s ds nz (held t x) .table ≡ stepLeaves f n w r s es mz (held t y) .table
+  unfolding stepLeaves costIn
+  leaves-own (Mix j k) u a b d dz x y e = mix-draws f n rows w t whole (inside R a (omega arith)) k d
+  leaves-own (Check j) u a b d dz x y e = refl
+  leaves-own (Scale j) u a b d dz x y e = scale-draws f n rows w t whole (inside R a (omega arith)) dz d
+  leaves-own (Clear j k) u a b d dz x y e = clear-draws f n rows w t whole (inside u a (omega arith)) r d
+  leaves-own (Open j) u a b d dz x y e = refl
+  leaves-own (Lift j) u a b d dz x y e = ap (λ (v : ℕ). lift f n w r j v t) e
+
+-- in the square system of an order
 module _ (o : Order) (t : List ℕ) (whole : length t ≡ tableBytes (o .shares) (o .size) (o .size + 1)) {ds es : List ℕ} where
   pub opened-own : (s : Step) → inList (o .size) s ≡ true → SameDraws (fieldOf (o .field)) (maskCost o s) ds es → (x y : List ℕ)
       → opened o s ds (held t x) ≡ opened o s es (held t y)
-  unfolding opened stepOpens costOf costIn revealedBy
-  opened-own (Mix j k) h d x y = refl
-  opened-own (Check j) h d x y =
-      let w = within (o .size) (Check j) h in
-      check-draws (o .field) (o .shares) (o .size) (o .size + 1) t whole (in-table (w .0) (w .1) (w .0) (omega arith)) d
-  opened-own (Scale j) h d x y = refl
-  opened-own (Clear j k) h d x y = refl
-  opened-own (Open j) h d x y =
-      let w = within (o .size) (Open j) h in
-      opens-draws (o .field) (o .shares) (o .size) (o .size + 1) t whole (in-table (w .0) (w .1) (omega arith) (omega arith)) d
-  opened-own (Lift j) h d x y = refl
+  unfolding opened costOf
+  opened-own s h d =
+      let c = column-in (o .size) s (within (o .size) s h) in
+      opens-own (o .field) (o .shares) (o .size) (o .size + 1) (columnOf s) c t whole s (c .0) (omega arith) d
 
   pub table-own : (s : Step) → inList (o .size) s ≡ true → SameDraws (fieldOf (o .field)) (maskCost o s) ds es → {nz mz : List ℕ}
       → SameDraws (fieldOf (o .field)) (nonzeroCost o s) nz mz → (x y : List ℕ) → SameRead s x y
       → acted o s ds nz (held t x) .table ≡ acted o s es mz (held t y) .table
-  unfolding acted stepLeaves costOf costIn
-  table-own (Mix j k) h d dz x y b =
-      let w = within (o .size) (Mix j k) h in
-      mix-draws (o .field) (o .shares) (o .size) (o .size + 1) t whole (in-table (w .0) (omega arith) (w .0) (omega arith)) k d
-  table-own (Check j) h d dz x y b = refl
-  table-own (Scale j) h d dz x y b =
-      let w = within (o .size) (Scale j) h in
-      scale-draws (o .field) (o .shares) (o .size) (o .size + 1) t whole (in-table (w .0) (w .1) (w .0) (omega arith)) dz d
-  table-own (Clear j k) h d dz x y b =
-      let w = within (o .size) (Clear j k) h in
-      clear-draws (o .field) (o .shares) (o .size) (o .size + 1) t whole (in-table (omega arith) (w .2) (w .0) (omega arith)) j d
-  table-own (Open j) h d dz x y b = refl
-  table-own (Lift j) h d dz x y b = ap (λ (v : ℕ). lift (o .field) (o .shares) (o .size + 1) j j v t) b
+  unfolding acted costOf
+  table-own s h d dz =
+      let u = within (o .size) s h in
+      let c = column-in (o .size) s u in
+      leaves-own (o .field) (o .shares) (o .size) (o .size + 1) (columnOf s) c t whole s (other-row (o .size) s u) (c .0) (omega arith) d dz

@@ -66,9 +66,18 @@ module _ (o : Order) (some : 0 < o .shares) (ds nz : List ℕ) (h : Held) (whole
 abbrev pub Fair : Order → List ℕ → Place → Type 0
 Fair o x p = no20 o p x ≡ passed
 
+pub lift-element : (f j : ℕ) (x : List ℕ) → getD x (j - 1) 0 < fieldOf f .q → liftRefused f (Lift j) x ≡ passed
+unfolding liftRefused tooLarge
+lift-element f j x l = unmet 20 _ (lt-leb (fieldOf f .q) (getD x (j - 1) 0) l)
+
 pub lift-passes : (o : Order) (j : ℕ) (x : List ℕ) → getD x (j - 1) 0 < fieldOf (o .field) .q → Fair o x (At (Lift j))
-unfolding no20 liftRefused tooLarge
-lift-passes o j x l = unmet 20 _ (lt-leb (fieldOf (o .field) .q) (getD x (j - 1) 0) l)
+unfolding no20
+lift-passes o j x l = lift-element (o .field) j x l
+
+-- what Open opens
+pub element : (f n w r j : ℕ) (ds : List ℕ) (h : Held) → stepOpens f n w r (Open j) ds h < fieldOf f .q
+unfolding stepOpens revealedBy unknownAt opening
+element f n w r j ds h = sum-lt (fieldOf f) (field-of f .ring) _
 
 pub fair-first : (o : Order) (x : List ℕ) (j : ℕ) → Fair o x (firstOf (o .size) j)
 unfolding firstOf no20 liftRefused
@@ -78,10 +87,9 @@ module _ (o : Order) (ds : List ℕ) (h : Held) (places : length (h .solution) �
   abbrev left : Step → List ℕ
   left s = written (revealedBy s) (opened o s ds h) (h .solution)
 
-  -- what Open opens
-  element : (j : ℕ) → opened o (Open j) ds h < fieldOf (o .field) .q
-  unfolding opened stepOpens revealedBy unknownAt opening
-  element j = sum-lt (fieldOf (o .field)) (field-of (o .field) .ring) _
+  opened-element : (j : ℕ) → opened o (Open j) ds h < fieldOf (o .field) .q
+  unfolding opened
+  opened-element j = element (o .field) (o .shares) (o .size + 1) j j ds h
 
   pub fair-after : (s : Step) → inList (o .size) s ≡ true → Fair o (left s) (following (o .size) s (opened o s ds h))
   unfolding following revealedBy no20 liftRefused
@@ -93,5 +101,5 @@ module _ (o : Order) (ds : List ℕ) (h : Held) (places : length (h .solution) �
       let w = within (o .size) (Open j) i in
       let x = opened o (Open j) ds h in
       let byte : getD (set (h .solution) (j - 1) x) (j - 1) 0 ≡ x = getD-set-same (h .solution) (j - 1) x 0 (omega (arith, places, w .0)) in
-      either (Fair o (left (Open j))) (ltb 1 j) (lift-passes o j (left (Open j)) (rw byte (element j))) refl
+      either (Fair o (left (Open j))) (ltb 1 j) (lift-passes o j (left (Open j)) (rw byte (opened-element j))) refl
   fair-after (Lift j) i = refl

@@ -1,41 +1,39 @@
 -- Demand 3 is never empty. From a fresh record and an admitted table every call that lends what its step asks for is accepted, and a host that
 -- goes on so comes to an end, after 01's number of steps. And what the end of any run means.
 -- Assumes nothing.
-use mathlib.Core.List.{List, [], _∷_, _++_}
-use mathlib.Core.Logic.{⊎-elim}
+use mathlib.Core.List.{List}
+use mathlib.Core.Logic.{_⊎_, inl, inr, ⊎-elim}
 use mathlib.Core.Path.{_≡_, refl, sym, ap, _∙_}
-use Prim.Native.Nat.{ℕ, zero, suc, _+_, _-_, _≤_}
-use native.Mathlib.Decide.{decLt}
-use native.Mathlib.Nat.{le-refl, mod-eq-of-lt}
+use Prim.Native.Nat.{ℕ, zero, suc, _+_}
 use native.Mathlib.Omega.{arith}
-use lib.ListN.{length, getD, take, drop, length-drop, length-replicate, replicate, List·getD-append, getD-replicate}
-use lib.Seq.{take-add, length-take-le, getD-take, getD-drop, getD-append-add}
+use lib.ListN.{length, take, drop, length-replicate, replicate}
+use lib.Seq.{getD-take, getD-drop}
 use Rattle.field.specs.Field.{draw, fieldOf}
-use Rattle.field.proofs.Fields.{field-of}
-use Rattle.sharing.proofs.Draws.{same-longer}
 use Rattle.course.specs.declared.Step.{Step}
 use Rattle.course.specs.declared.Place.{Place}
 use Rattle.course.specs.declared.Place.the-variants.{At, Stopped, Done}
 use Rattle.course.specs.declared.Order.{Order}
 use Rattle.course.specs.StepList.{Sizes, stepList, maskCost, nonzeroCost, fullMask, fullNonzero}
-use Rattle.course.proofs.Along.{along-in, room-along}
+use Rattle.course.proofs.Along.{room-along}
 use Rattle.walk.specs.declared.Ending.{Ending}
 use Rattle.walk.specs.declared.Ending.the-variants as E
 use Rattle.walk.specs.Act.{held}
 use Rattle.walk.specs.Walk.{solved}
 use Rattle.meaning.specs.Meaning.{IsSolved, IsStopped, Means}
-use Rattle.meaning.specs.Claims.{NoZero, Given}
+use Rattle.meaning.specs.Claims.{Given}
 use Rattle.meaning.proofs.Meant.{meant}
 use Rattle.verdict.specs.Told.{passed}
 use Rattle.solver.specs.Refusals.{wholeTable, solveOrder, ended, costAt, maskAt, nonzeroAt}
 use Rattle.verdict.specs.Calls.{gives}
 use Rattle.solver.specs.Calls.{solveDoes, solveCall}
 use Rattle.solver.proofs.Ready.{Solvable, solvable}
-use Rattle.trace.specs.Trace.{Beside, Host, begin, hostAfter, drive, Refused, Accepted, countsIn, Begins, Agrees, Admitted, Fit, calls, driven, Supplies, Ended}
+use Rattle.trace.specs.Driving.{Beside, Begins, driveBy, callsBy, drivenBy}
+use Rattle.trace.specs.Trace.{Host, begin, hostAfter, drive, Refused, Accepted, countsIn, Agrees, Admitted, Fit, calls, driven, Supplies, Ended}
+use Rattle.trace.proofs.Driving.{cut-more, cut-begins, part-long, padded, padded-begins, padded-drawn, next-by, all-by}
 use Rattle.trace.proofs.Admitted.{step-passes}
 use Rattle.trace.proofs.Call.{verdict, accepted-call, each-call}
 use Rattle.trace.proofs.Reached.{reached, order-kept}
-use Rattle.trace.proofs.Trace.{last-call, placed-at, agrees, agrees-call}
+use Rattle.trace.proofs.Trace.{placed-at, agrees, agrees-call}
 
 module _ (o : Order) (sized : Sizes o) (t y : List ℕ) where
   abbrev first : Host
@@ -68,41 +66,32 @@ module _ (o : Order) (sized : Sizes o) (t y : List ℕ) where
   -- a host that goes on with fit calls
   module _ (admitted : Admitted o t y) (lend : Host → Beside) (supplies : Supplies o first lend) where
     pub supplied : (k : ℕ) (s : Step) → driven lend k first .progress .place ≡ At s → Accepted (driven lend k first) (lend (driven lend k first)) s
-    unfolding driven
+    unfolding drivenBy
     supplied k s e = accepted admitted (calls lend k first) (lend (drive first (calls lend k first))) s e (supplies .fit k s e)
+
+    -- an ended host stays as it is
+    abbrev Going : Host → Type 0
+    Going h = (r : Step) × (h .progress .place ≡ At r)
+
+    stays : (k : ℕ) → (Going (driven lend k first) → ⊥) → hostAfter (driven lend k first) (lend (driven lend k first)) ≡ driven lend k first
+    stays k ended =
+        ⊎-elim (λ (r : Refused (driven lend k first) (lend (driven lend k first))). r .after)
+        (λ (r : (s : Step) × Accepted (driven lend k first) (lend (driven lend k first)) s). absurd (ended (r .0, r .1 .place)))
+        (each-call (driven lend k first) (lend (driven lend k first)))
+
+    goes : (p : Place) → ((r : Step) × (p ≡ At r)) ⊎ (((r : Step) × (p ≡ At r)) → ⊥)
+    goes (At s) = inl (s, refl)
+    goes (Stopped j) = inr (λ r. let e = r .1 in let z : _≡_ {A = ℕ} 0 1 = cc in omega arith)
+    goes Done = inr (λ r. let e = r .1 in let z : _≡_ {A = ℕ} 0 1 = cc in omega arith)
 
     -- at a step, every call so far was accepted
     all-accepted : (k : ℕ) (s : Step) → driven lend k first .progress .place ≡ At s → driven lend k first .steps ≡ k
-    unfolding driven calls drive
-    all-accepted zero s e = refl
-    all-accepted (suc k) s e = by-place (driven lend k first .progress .place) refl (all-accepted k)
-      where
-        next : driven lend (suc k) first ≡ hostAfter (driven lend k first) (lend (driven lend k first))
-        next = last-call first (calls lend k first) (lend (drive first (calls lend k first)))
-
-        -- an ended host stays as it is
-        stays : ((r : Step) → driven lend k first .progress .place ≡ At r → ⊥) → driven lend (suc k) first ≡ driven lend k first
-        stays ended =
-            next
-            ∙ ⊎-elim (λ (r : Refused (driven lend k first) (lend (driven lend k first))). r .after)
-            (λ (r : (s : Step) × Accepted (driven lend k first) (lend (driven lend k first)) s). absurd (ended (r .0) (r .1 .place)))
-            (each-call (driven lend k first) (lend (driven lend k first)))
-
-        by-place : (p : Place) → driven lend k first .progress .place ≡ p
-            → ((r : Step) → driven lend k first .progress .place ≡ At r → driven lend k first .steps ≡ k) → driven lend (suc k) first .steps ≡ suc k
-        by-place (At r) q ih =
-            ap (λ (h : Host). h .steps) (next ∙ supplied k r q .after) ∙ omega (arith, ih r q)
-        by-place (Stopped j) q ih =
-            let z = stays (λ r g. let z : _≡_ {A = ℕ} 0 1 = cc in omega arith) in
-            let n : _≡_ {A = ℕ} 0 1 = cc in
-            absurd (let f : ⊥ = omega arith in f)
-        by-place Done q ih =
-            let z = stays (λ r g. let z : _≡_ {A = ℕ} 0 1 = cc in omega arith) in
-            let n : _≡_ {A = ℕ} 0 1 = cc in
-            absurd (let f : ⊥ = omega arith in f)
+    all-accepted k s e =
+        all-by hostAfter lend first Going (λ h. h .steps) refl (λ k. goes (driven lend k first .progress .place))
+        (λ k r. ap (λ (h : Host). h .steps) (supplied k (r .0) (r .1) .after)) stays k (s, e)
 
     ends : (p : Place) → driven lend (length (stepList (o .size))) first .progress .place ≡ p → Ended p
-    unfolding driven
+    unfolding drivenBy
     ends (At s) e =
         let k : ℕ = length (stepList (o .size)) in
         let g = reached o sized t y (calls lend k first) in
@@ -116,25 +105,6 @@ module _ (o : Order) (sized : Sizes o) (t y : List ℕ) where
     reaches = ends (driven lend (length (stepList (o .size))) first .progress .place) refl
 
 -- ---- every whole solve has such a run
-
--- a beginning of a tape
-own-length : (k : ℕ) (l : List ℕ) → take k l ≡ take (length (take k l)) l
-own-length zero l = refl
-own-length (suc k) [] = refl
-own-length (suc k) (x ∷ l) = ap (_∷_ x) (own-length k l)
-
-cut-more : (ds tape : List ℕ) (b : ℕ) → ds ≡ take (length ds) tape
-    → ds ++ take b (drop (length ds) tape) ≡ take (length (ds ++ take b (drop (length ds) tape))) tape
-cut-more ds tape b e =
-    let all : ds ++ take b (drop (length ds) tape) ≡ take (length ds + b) tape =
-    ap (λ (l : List ℕ). l ++ take b (drop (length ds) tape)) e ∙ sym (take-add (length ds) b tape) in
-    rw all (own-length (length ds + b) tape)
-
-cut-begins : (o : Order) (ds tape : List ℕ) → ds ≡ take (length ds) tape → Begins o ds tape
-cut-begins o ds tape e =
-    record {
-      at = λ i h. ap (draw (fieldOf (o .field))) (ap (λ (l : List ℕ). getD l i 0) e ∙ getD-take (length ds) tape i 0 h);
-    }
 
 -- the parts of a solve's tapes that the record's place asks for, from where the host has come to
 abbrev cut : Order → List ℕ → List ℕ → Host → Beside
@@ -151,11 +121,8 @@ module _ (o : Order) (t y ms zs : List ℕ) (passes : solveOrder o t (length y) 
   abbrev fresh : Host
   fresh = begin o t y
 
-  part-long : (a c full : ℕ) (tape : List ℕ) → a + c ≤ full → full ≤ length tape → length (take c (drop a tape)) ≡ c
-  part-long a c full tape h g = length-take-le c (drop a tape) (rw length-drop (omega arith))
-
   cut-fits : Supplies o fresh (cut o ms zs)
-  unfolding driven costAt
+  unfolding drivenBy costAt
   cut-fits = record { fit = fits }
     where
       fits : (k : ℕ) (s : Step) → driven (cut o ms zs) k fresh .progress .place ≡ At s → Fit o s (cut o ms zs (driven (cut o ms zs) k fresh))
@@ -187,16 +154,16 @@ module _ (o : Order) (t y ms zs : List ℕ) (passes : solveOrder o t (length y) 
       (each-call h (cut o ms zs h))
 
   cuts : (k : ℕ) → Cut (driven (cut o ms zs) k fresh)
-  unfolding driven calls drive
+  unfolding drivenBy callsBy driveBy
   cuts zero = record { mask = refl; nonzero = refl }
   cuts (suc k) =
-      rw (last-call fresh (calls (cut o ms zs) k fresh) (cut o ms zs (driven (cut o ms zs) k fresh))) (cut-driven (driven (cut o ms zs) k fresh) (cuts k))
+      rw (next-by hostAfter (cut o ms zs) fresh k) (cut-driven (driven (cut o ms zs) k fresh) (cuts k))
 
   -- For every solve that is admitted: step calls that are lent the tapes part by part, each what the record's place asks for, all accepted up
   -- to the end (`supplied`), come to the solve's end. So `agrees` speaks of every solve
   pub as-solve : (cs : List Beside) × Ended (drive fresh cs .progress .place)
       × Agrees (drive fresh cs) (solveCall o (held t y) ms zs) (drive fresh cs .progress .place)
-  unfolding driven
+  unfolding drivenBy
   as-solve =
       let k : ℕ = length (stepList (o .size)) in
       let cs : List Beside = calls (cut o ms zs) k fresh in
@@ -204,8 +171,14 @@ module _ (o : Order) (t y ms zs : List ℕ) (passes : solveOrder o t (length y) 
       let a : Admitted o t y = record { whole = checked .lent .whole; elements = checked .lent .elements; places = checked .lent .room } in (
         cs,
         reaches o (checked .sizes) t y a (cut o ms zs) cut-fits,
-        agrees-call o (checked .sizes) t y cs y ms zs (cut-begins o (drive fresh cs .mask) ms (b .mask)) (cut-begins o (drive fresh cs .nonzero) zs (b .nonzero)) passes,
+        agrees-call o (checked .sizes) t y cs y ms zs (cut-begins (o .field) (drive fresh cs .mask) ms (b .mask)) (cut-begins (o .field) (drive fresh cs .nonzero) zs (b .nonzero)) passes,
       )
+
+  -- and their draws are those that the tapes begin with
+  pub as-solve-draws : Begins (o .field) (drive fresh (as-solve .0) .mask) ms × Begins (o .field) (drive fresh (as-solve .0) .nonzero) zs
+  unfolding as-solve drivenBy
+  as-solve-draws =
+      let b = cuts (length (stepList (o .size))) in (cut-begins (o .field) _ ms (b .mask), cut-begins (o .field) _ zs (b .nonzero))
 
 -- ---- what the end of a run means
 
@@ -214,38 +187,18 @@ module _ (o : Order) (sized : Sizes o) (t y : List ℕ) (cs : List Beside) (whol
   end = drive (begin o t y) cs
 
   -- the host's nonzero draws, and ones behind them
-  tape : List ℕ
-  tape = end .nonzero ++ replicate (fullNonzero o) 1
-
-  tape-begins : Begins o (end .nonzero) tape
-  unfolding tape
-  tape-begins = same-longer (fieldOf (o .field)) (end .nonzero) (replicate (fullNonzero o) 1) (le-refl _)
-
-  tape-drawn : NoZero o tape
-  unfolding tape
-  tape-drawn k h e = elim (decLt k (length (end .nonzero))) [
-    | yes l ↦
-        reached o sized t y cs .drawn k l
-        (ap (draw (fieldOf (o .field))) (sym (List·getD-append (end .nonzero) (replicate (fullNonzero o) 1) 0 k l)) ∙ e)
-    | no n ↦
-        let i : ℕ = k - length (end .nonzero) in
-        let j : length (end .nonzero) + i ≡ k = omega arith in
-        let one : getD tape k 0 ≡ 1 =
-        ap (λ (z : ℕ). getD tape z 0) (sym j) ∙ getD-append-add (end .nonzero) (replicate (fullNonzero o) 1) i 0
-        ∙ getD-replicate (fullNonzero o) i 1 0 (omega arith) in
-        let z : _≡_ {A = ℕ} 1 0 = sym (mod-eq-of-lt (field-of (o .field) .one-lt)) ∙ ap (draw (fieldOf (o .field))) (sym one) ∙ e in
-        omega arith
-  ]
+  abbrev tape : List ℕ
+  tape = padded (end .nonzero) (fullNonzero o)
 
   lent : (x : List ℕ) → length x ≡ o .size → Given o tape t x
-  lent x l = record { sizes = sized; table = whole; solution = l; nonzero = tape-drawn }
+  lent x l = record { sizes = sized; table = whole; solution = l; nonzero = padded-drawn (o .field) (end .nonzero) (fullNonzero o) (reached o sized t y cs .drawn) }
 
-  same-draws : Begins o (end .mask) (end .mask)
+  same-draws : Begins (o .field) (end .mask) (end .mask)
   same-draws = record { at = λ i h. refl }
 
   -- what the solve on the host's draws comes to
   agreed : (x : List ℕ) → length x ≡ o .size → Agrees end (solveDoes (solved o (end .mask) tape (held t x))) (end .progress .place)
-  agreed x l = agrees o sized t y cs x (end .mask) tape same-draws tape-begins l
+  agreed x l = agrees o sized t y cs x (end .mask) tape same-draws (padded-begins (o .field) (end .nonzero) (fullNonzero o)) l
 
   means-stopped : (x : List ℕ) (a : Ending) (j : ℕ) → gives a ≡ gives (E.Stopped j (countsIn end)) → (v : List ℕ) → Means o t a v → IsStopped o t j
   means-stopped x a j e v m = let same : a ≡ E.Stopped j (countsIn end) = cc in rw same at m

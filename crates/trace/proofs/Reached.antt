@@ -5,16 +5,11 @@ use mathlib.Core.Bool.{true}
 use mathlib.Core.List.{List, [], _∷_, _++_, append-assoc}
 use mathlib.Core.Logic.{⊎-elim}
 use mathlib.Core.Path.{_≡_, refl, sym, ap, _∙_}
-use Prim.Native.Nat.{ℕ, _+_, _-_, _≤_, _<_}
-use native.Mathlib.Nat.{le-refl, add-zero}
-use native.Mathlib.Decide.{decLt}
+use Prim.Native.Nat.{ℕ, _+_, _≤_, _<_}
+use native.Mathlib.Nat.{add-zero}
 use native.Mathlib.Omega.{arith}
 use lib.Dec.{ltb}
-use lib.ListN.{length, getD, drop, length-append, List·getD-append}
-use lib.Seq.{drop-at, getD-append-add}
-use Rattle.field.specs.Field.{draw, fieldOf}
-use Rattle.sharing.specs.Lists.{SameDraws}
-use Rattle.sharing.proofs.Draws.{same-drop, same-longer}
+use lib.ListN.{length, drop, length-append}
 use Rattle.course.specs.declared.Step.{Step}
 use Rattle.course.specs.declared.Place.{Place}
 use Rattle.course.specs.declared.Place.the-variants.{At, Done}
@@ -30,22 +25,14 @@ use Rattle.course.proofs.Along.{either, resume, calm-resume, first-calm, resume
 use Rattle.course.proofs.Moving.{moves-so, moves-on, start-counted, moved-counted}
 use Rattle.walk.specs.Act.{held}
 use Rattle.walk.specs.Walk.{Tally, running, courseOf, spent, walk, fresh}
-use Rattle.trace.specs.Trace.{Beside, Host, begin, lends, hostAfter, drive, orderIn, openedIn, stepped, NoneZero, Refused, Accepted, countsIn, Recorded, Begins, Admitted}
+use Rattle.trace.specs.Driving.{Beside, NoneZero, Begins, driveBy}
+use Rattle.trace.specs.Trace.{Host, begin, lends, hostAfter, drive, orderIn, openedIn, stepped, Refused, Accepted, countsIn, Recorded, Admitted}
+use Rattle.trace.proofs.Driving.{begins-front, begins-back, both-drawn}
 use Rattle.trace.proofs.Call.{acted-written, each-call}
 use Rattle.trace.proofs.Own.{knownFrom, SameFrom, same-first, same-read, same-after, opened-own, table-own}
 use Rattle.walk.proofs.Acted.{acted-sized, acted-places, acted-below}
 use Rattle.walk.proofs.Walked.{calm-course, walk-append}
 use Rattle.trace.proofs.Pivot.{Firm, firm-first, firm-after, Fair, fair-first, fair-after}
-
--- a tape that begins with the draws of a and b begins with those of a, and goes on with those of b
-module _ (o : Order) (a b : List ℕ) {ds : List ℕ} (d : Begins o (a ++ b) ds) where
-  begins-front : Begins o a ds
-  begins-front =
-      record { at = λ i h. same-longer (fieldOf (o .field)) a b (le-refl _) .at i h ∙ d .at i (omega (arith, length-append a b)) }
-
-  begins-back : {k : ℕ} → length b ≡ k → SameDraws (fieldOf (o .field)) k b (drop (length a) ds)
-  begins-back e =
-      rw (← e) (rw drop-at at (same-drop (fieldOf (o .field)) (length a) (length b) (omega (arith, length-append a b)) d))
 
 -- one step more in a sum
 sums-more : (o : Order) (l : List Step) (s : Step) (c : Counts) → c ≡ sums o l
@@ -74,8 +61,8 @@ pub record Reached (o : Order) (t x : List ℕ) (h : Host) : Type 0 where
   pub places : h .progress .place ≡ Done → length (h .solution) ≡ o .size
   -- what a call asks of the table and the solution goes on holding
   pub admitted : Admitted o t x → Admitted o (h .table) (h .solution)
-  pub drawn : NoneZero o (h .nonzero)
-  pub solve : (y ms zs : List ℕ) → length y ≡ o .size → Begins o (h .mask) ms → Begins o (h .nonzero) zs
+  pub drawn : NoneZero (o .field) (h .nonzero)
+  pub solve : (y ms zs : List ℕ) → length y ≡ o .size → Begins (o .field) (h .mask) ms → Begins (o .field) (h .nonzero) zs
       → (v : List ℕ) × (walk o ms zs steps (running (fresh (held t y))) ≡ courseOf (h .progress .place) (tallyOf h v))
       × (length v ≡ o .size) × SameFrom (o .size) (knownFrom (o .size) (h .progress .place)) (h .solution) v
 
@@ -104,16 +91,6 @@ start o some t x =
       solve = λ y ms zs l d e. (y, calm-course (firstOf m 1) (fresh (held t y)) c, l, same-first m 1);
     }
 
--- the draws of two parts, none of which is 0
-both-drawn : (o : Order) (a b : List ℕ) → NoneZero o a → NoneZero o b → NoneZero o (a ++ b)
-both-drawn o a b g h k l e = elim (decLt k (length a)) [
-  | yes i ↦ g k i (ap (draw (fieldOf (o .field))) (sym (List·getD-append a b 0 k i)) ∙ e)
-  | no n ↦
-      let j : length a + (k - length a) ≡ k = omega arith in
-      h (k - length a) (omega (arith, length-append a b))
-      (ap (draw (fieldOf (o .field))) (sym (getD-append-add a b (k - length a) 0) ∙ ap (λ (i : ℕ). getD (a ++ b) i 0) j) ∙ e)
-]
-
 -- what held of a host holds of it after an accepted call
 module _ (t x : List ℕ) (h : Host) (c : Beside) (s : Step) (sized : Sizes (orderIn h)) (a : Accepted h c s)
     (g : Reached (orderIn h) t x h) where
@@ -135,7 +112,7 @@ module _ (t x : List ℕ) (h : Host) (c : Beside) (s : Step) (sized : Sizes (ord
       let j : p .nonzero + nonzeroCost own s < 18446744073709551616 = omega (arith, r .2, g .recorded .nonzero, nonzero-small own sized) in
       moves-on p s u (a .place) (moves-so p s sized (a .listed) i j)
 
-  next : h′ .progress .place ≡ following (own .size) s u
+  pub next : h′ .progress .place ≡ following (own .size) s u
   next = ap (λ (p : Progress). p .place) moved
 
   pub order-moved : orderIn h′ ≡ own
@@ -153,7 +130,7 @@ module _ (t x : List ℕ) (h : Host) (c : Beside) (s : Step) (sized : Sizes (ord
       let f : Chain (own .size) (following (own .size) s 0) rest Done = rw (next, resume-after (own .size) s u) at e in
       rw append-assoc (g .whole (s ∷ rest) (rw (a .place) (refl, f)))
 
-  module _ (y ms zs : List ℕ) (places : length y ≡ own .size) (d : Begins own (h .mask ++ c .mask) ms) (e : Begins own (h .nonzero ++ c .nonzero) zs) where
+  module _ (y ms zs : List ℕ) (places : length y ≡ own .size) (d : Begins (own .field) (h .mask ++ c .mask) ms) (e : Begins (own .field) (h .nonzero ++ c .nonzero) zs) where
     -- the solve is where the host is, with a solution v of its own that has the same unknowns: so it is after its next step
     module _ (v : List ℕ) (long : length v ≡ own .size) (same : SameFrom (own .size) (knownFrom (own .size) (At s)) (h .solution) v) where
       abbrev after-solution : List ℕ
@@ -162,8 +139,8 @@ module _ (t x : List ℕ) (h : Host) (c : Beside) (s : Step) (sized : Sizes (ord
       step-more : walk own ms zs (s ∷ []) (courseOf (h .progress .place) (tallyOf h v)) ≡ courseOf (h′ .progress .place) (tallyOf h′ after-solution)
       unfolding walk
       step-more =
-          let dm = begins-back own (h .mask) (c .mask) d (a .mask) in
-          let dz = begins-back own (h .nonzero) (c .nonzero) e (a .nonzero) in
+          let dm = begins-back (own .field) (h .mask) (c .mask) d (a .mask) in
+          let dz = begins-back (own .field) (h .nonzero) (c .nonzero) e (a .nonzero) in
           rw (next, a .place, opened-own own (h .table) (a .table) s (a .listed) dm (h .solution) v, table-own own (h .table) (a .table) s (a .listed) dm dz (h .solution) v (same-read (own .size) s (a .listed) same), mask-more, nonzero-more)
 
       long-more : length after-solution ≡ own .size
@@ -172,7 +149,7 @@ module _ (t x : List ℕ) (h : Host) (c : Beside) (s : Step) (sized : Sizes (ord
       -- it writes what the host's step writes
       same-more : SameFrom (own .size) (knownFrom (own .size) (h′ .progress .place)) (h′ .solution) after-solution
       same-more =
-          let dm = begins-back own (h .mask) (c .mask) d (a .mask) in
+          let dm = begins-back (own .field) (h .mask) (c .mask) d (a .mask) in
           rw (next, acted-written own s (drop (length (h .mask)) ms) (drop (length (h .nonzero)) zs) (held (h .table) v), ← (opened-own own (h .table) (a .table) s (a .listed) dm (h .solution) v))
           (same-after (own .size) (h .solution) v (a .solution) long u s (a .listed) same)
 
@@ -180,7 +157,7 @@ module _ (t x : List ℕ) (h : Host) (c : Beside) (s : Step) (sized : Sizes (ord
         × (walk own ms zs (g .steps ++ (s ∷ [])) (running (fresh (held t y))) ≡ courseOf (h′ .progress .place) (tallyOf h′ v))
         × (length v ≡ own .size) × SameFrom (own .size) (knownFrom (own .size) (h′ .progress .place)) (h′ .solution) v
     solve-more =
-        let r = g .solve y ms zs places (begins-front own (h .mask) (c .mask) d) (begins-front own (h .nonzero) (c .nonzero) e) in
+        let r = g .solve y ms zs places (begins-front (own .field) (h .mask) (c .mask) d) (begins-front (own .field) (h .nonzero) (c .nonzero) e) in
         let same = rw (a .place) at (r .3) in (
           after-solution (r .0) (r .2) same,
           walk-append own ms zs (g .steps) (s ∷ []) (running (fresh (held t y))) ∙ ap (walk own ms zs (s ∷ [])) (r .1) ∙ step-more (r .0) (r .2) same,
@@ -214,7 +191,7 @@ module _ (t x : List ℕ) (h : Host) (c : Beside) (s : Step) (sized : Sizes (ord
               elements = acted-below own s (c .mask) (c .nonzero) (lends h) (a .elements);
               places = places-more;
             };
-        drawn = both-drawn own (h .nonzero) (c .nonzero) (g .drawn) (a .drawn);
+        drawn = both-drawn (own .field) (h .nonzero) (c .nonzero) (g .drawn) (a .drawn);
         solve = solve-more;
       }
 
@@ -235,7 +212,7 @@ module _ (o : Order) (sized : Sizes o) (t x : List ℕ) where
       (each-call h c)
 
   steps : (h : Host) (cs : List Beside) → Run o t x h → Run o t x (drive h cs)
-  unfolding drive
+  unfolding driveBy
   steps h [] g = g
   steps h (c ∷ cs) g = steps (hostAfter h c) cs (step h c g)
 

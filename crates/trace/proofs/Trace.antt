@@ -23,10 +23,12 @@ use Rattle.solver.specs.Refusals.{placed, no10, no12, no19, solveOrder}
 use Rattle.verdict.specs.Calls.{call}
 use Rattle.solver.specs.Calls.{solveDoes, solveCall}
 use Rattle.solver.proofs.Ready.{solvable}
-use Rattle.trace.specs.Trace.{Beside, Host, begin, hostAfter, drive, orderIn, Refused, Accepted, countsIn, Counted, Recorded, Begins, Agrees, Only, possible, Never}
+use Rattle.trace.specs.Driving.{Beside, Begins}
+use Rattle.trace.specs.Trace.{Host, begin, hostAfter, drive, orderIn, Refused, Accepted, countsIn, Counted, Recorded, Agrees, Only, possible, Never}
 use Rattle.verdict.proofs.Passes.{unmet, one-passes, two-passes, three-passes}
 use Rattle.trace.specs.Numbers.{oneOf, Among}
-use Rattle.trace.proofs.Numbers.{checks, Each, _also_, not-given, given}
+use Rattle.trace.proofs.Numbers.{checks, Each, _also_, by-number, not-given, given}
+use Rattle.trace.proofs.Driving.{last-by}
 use Rattle.trace.proofs.Call.{each-call, refusal}
 use Rattle.walk.proofs.Walked.{walk-append, walk-stopped}
 use Rattle.trace.proofs.Own.{knownFrom, SameFrom, all-known}
@@ -39,20 +41,18 @@ checksOf h c = checks (h .progress) (h .table) (h .solution) (length (c .mask)) 
 -- a number whose check passes is not given
 pub never : (h : Host) (c : Beside) (k : ℕ) → getD (checksOf h c) k passed ≡ passed → Never k h c
 never h c k e l g =
-    not-given (h .progress) (h .table) (h .solution) (length (c .mask)) (c .nonzero) k e l (refusal h c l g)
+    not-given (checksOf h c) (by-number (h .progress) (h .table) (h .solution) (length (c .mask)) (c .nonzero)) k e l (refusal h c l g)
 
 -- what is given is one of some numbers, where the check of each other number passes
 only : (h : Host) (c : Beside) (ns : List ℕ) → Each (λ k. oneOf k ns ≡ true) (checksOf h c) → Only ns h c
 unfolding Among
 only h c ns each l g =
-    given (h .progress) (h .table) (h .solution) (length (c .mask)) (c .nonzero) (λ k. oneOf k ns ≡ true) each l
+    given (checksOf h c) (by-number (h .progress) (h .table) (h .solution) (length (c .mask)) (c .nonzero)) (λ k. oneOf k ns ≡ true) each l
     (refusal h c l g)
 
 -- a run is its calls one by one
 pub last-call : (h : Host) (cs : List Beside) (c : Beside) → drive h (cs ++ (c ∷ [])) ≡ hostAfter (drive h cs) c
-unfolding drive
-last-call h [] c = refl
-last-call h (b ∷ cs) c = last-call (hostAfter h b) cs c
+last-call h cs c = last-by hostAfter h cs c
 
 -- what a host that is reached has, by its place
 module _ (o : Order) (t y : List ℕ) (h : Host) (g : Reached o t y h) where
@@ -74,7 +74,7 @@ module _ (o : Order) (t y : List ℕ) (h : Host) (g : Reached o t y h) where
       rw (le-ltb j 1 (w .0), le-ltb (o .size) j (w .1))
   placed-at Done e = refl
 
-  module _ (x ms zs : List ℕ) (lx : length x ≡ o .size) (dm : Begins o (h .mask) ms) (dz : Begins o (h .nonzero) zs) where
+  module _ (x ms zs : List ℕ) (lx : length x ≡ o .size) (dm : Begins (o .field) (h .mask) ms) (dz : Begins (o .field) (h .nonzero) zs) where
     abbrev goal : Course
     goal = walk o ms zs (stepList (o .size)) (running (fresh (held t x)))
 
@@ -117,7 +117,7 @@ module _ (o : Order) (sized : Sizes o) (t y : List ℕ) (cs : List Beside) where
   pub recorded : Recorded d × (matches (d .progress) ≡ true)
   recorded = let g = reached o sized t y cs in (g .recorded, g .matched)
 
-  module _ (x ms zs : List ℕ) (dm : Begins o (d .mask) ms) (dz : Begins o (d .nonzero) zs) where
+  module _ (x ms zs : List ℕ) (dm : Begins (o .field) (d .mask) ms) (dz : Begins (o .field) (d .nonzero) zs) where
     -- 3. The whole solve of the same first table, lent any solution of m bytes, on tapes that begin with the same draws, comes to the same end
     pub agrees : length x ≡ o .size → Agrees d (solveDoes (solved o ms zs (held t x))) (d .progress .place)
     agrees lx =

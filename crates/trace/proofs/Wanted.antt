@@ -1,6 +1,6 @@
 -- What `wanted` says is what the next call must be lent: a call with these lengths is not refused 7 or 14, nor 8 or 15.
 -- Assumes nothing.
-use mathlib.Core.Path.{_≡_, refl, sym, ap, _∙_}
+use mathlib.Core.Path.{_≡_, sym, ap, _∙_}
 use Prim.Native.Nat.{ℕ}
 use native.Mathlib.Nat.{le-of-eq}
 use native.Mathlib.Omega.{arith}
@@ -9,27 +9,24 @@ use Rattle.course.specs.declared.Draws.{Draws}
 use Rattle.verdict.specs.Told.{Told, passed, refused}
 use Rattle.verdict.specs.Refusals.{no7, no8, no14, no15}
 use Rattle.solver.specs.Refusals.{costAt, wantedOrder}
-use Rattle.verdict.specs.Calls.{refuses, gives, call}
+use Rattle.verdict.specs.Calls.{gives, after, call}
 use Rattle.solver.specs.Calls.{wantedCall}
-use Rattle.trace.specs.Trace.{Beside, Host, orderIn, Never}
+use Rattle.trace.specs.Driving.{Beside}
+use Rattle.trace.specs.Trace.{Host, orderIn, Never}
 use Rattle.verdict.proofs.Passes.{long-enough}
 use Rattle.trace.proofs.Trace.{never}
 
-module _ (h : Host) (c : Beside) (d : Draws) where
-  told : (w : Told) → wantedOrder (h .progress) ≡ w → wantedCall (h .progress) .says ≡ gives d
-      → d ≡ costAt (orderIn h) (h .progress .place)
-  unfolding wantedCall call
-  told passed e g =
-      let same : gives (costAt (orderIn h) (h .progress .place)) ≡ gives d = rw e at g in
-      cc
-  told (refused l) e g =
-      let same : refuses l ≡ gives d = rw e at g in
-      let z : _≡_ {A = ℕ} 0 1 = cc in
-      absurd (let n : ⊥ = omega arith in n)
+-- a call that gives no refusal gives what it does
+pub told : {A L : Type 0} (w : Told) (a d : A) (found left : L) → call w found (after (gives a) left) .says ≡ gives d → d ≡ a
+unfolding call
+told passed a d found left g = cc
+told (refused l) a d found left g = let z : _≡_ {A = ℕ} 0 1 = cc in absurd (let n : ⊥ = omega arith in n)
 
+module _ (h : Host) (c : Beside) (d : Draws) where
   module _ (says : wantedCall (h .progress) .says ≡ gives d) where
     wants : d ≡ costAt (orderIn h) (h .progress .place)
-    wants = told (wantedOrder (h .progress)) refl says
+    unfolding wantedCall
+    wants = told (wantedOrder (h .progress)) (costAt (orderIn h) (h .progress .place)) d _ _ says
 
     pub wanted-mask : length (c .mask) ≡ d .mask → Never 7 h c × Never 14 h c
     unfolding no7 no14

@@ -6,11 +6,10 @@
 use mathlib.Core.Bool.{true}
 use mathlib.Core.List.{List, [], _∷_, _++_}
 use mathlib.Core.Path.{_≡_}
-use Prim.Native.Nat.{ℕ, zero, suc, _+_, _-_, _≤_, _<_}
+use Prim.Native.Nat.{ℕ, _+_, _≤_}
 use lib.ListN.{length}
 use Rattle.field.specs.Field.{fieldOf}
-use Rattle.sharing.specs.Rules.{drawAt}
-use Rattle.sharing.specs.Lists.{SameDraws, Below}
+use Rattle.sharing.specs.Lists.{Below}
 use Rattle.course.specs.declared.Step.{Step}
 use Rattle.course.specs.declared.Place.{Place}
 use Rattle.course.specs.declared.Place.the-variants.{At, Stopped, Done}
@@ -24,14 +23,10 @@ use Rattle.walk.specs.declared.Ending.the-variants as E
 use Rattle.walk.specs.Act.{Held, held, opened, written, acted}
 use Rattle.verdict.specs.Told.{Line, passed}
 use Rattle.solver.specs.Refusals.{wholeTable, no20}
-use Rattle.verdict.specs.Calls.{Says, refuses, gives, Outcome}
+use Rattle.verdict.specs.Calls.{refuses, gives, Outcome}
 use Rattle.solver.specs.Calls.{Stride, tells, Lent, lent, stepCall}
+use Rattle.trace.specs.Driving.{Beside, accepts, uses, driveBy, callsBy, drivenBy, NoneZero}
 use Rattle.trace.specs.Numbers.{Among}
-
--- what a call is lent beside the record, the table and the solution
-pub record Beside : Type 0 where
-  pub mask : List ℕ
-  pub nonzero : List ℕ
 
 -- what a host has: the record, the table and the solution; how many calls were accepted; and the draws lent to those calls, in order
 pub record Host : Type 0 where
@@ -53,15 +48,6 @@ lends h = held (h .table) (h .solution)
 unfoldable pub called : Host → Beside → Outcome Stride Lent
 called h c = stepCall (h .progress) (lends h) (c .mask) (c .nonzero)
 
--- a refused call is not counted, and uses up none of its draws
-abbrev pub accepts : Says Stride → ℕ
-accepts (refuses l) = 0
-accepts (gives a) = 1
-
-abbrev pub uses : Says Stride → List ℕ → List ℕ
-uses (refuses l) ds = []
-uses (gives a) ds = ds
-
 abbrev pub noted : Host → Beside → Outcome Stride Lent → Host
 noted h c r =
     record {
@@ -77,9 +63,8 @@ unfoldable pub hostAfter : Host → Beside → Host
 hostAfter h c = noted h c (called h c)
 
 -- any calls, one after the other
-unfoldable pub drive : Host → List Beside → Host
-drive h [] = h
-drive h (c ∷ cs) = drive (hostAfter h c) cs
+abbrev pub drive : Host → List Beside → Host
+drive h cs = driveBy hostAfter h cs
 
 abbrev pub orderIn : Host → Order
 orderIn h = orderOf (h .progress)
@@ -100,10 +85,6 @@ stepped h c s =
       nonzero = h .nonzero ++ c .nonzero;
     }
 
--- no draw of a tape's part is 0
-abbrev pub NoneZero : Order → List ℕ → Type 0
-NoneZero o ds = (k : ℕ) → k < length ds → drawAt (fieldOf (o .field)) ds k ≡ 0 → ⊥
-
 -- 1. A call that was refused has changed nothing. One that was accepted did the step of the record's place, whose draws its counters had, on a
 -- whole table of which every byte is an element, on exactly the step's draws, and on nonzero draws that are not 0; and a Lift on an element
 pub record Refused (h : Host) (c : Beside) : Type 0 where
@@ -122,7 +103,7 @@ pub record Accepted (h : Host) (c : Beside) (s : Step) : Type 0 where
   pub lifts : no20 (orderIn h) (At s) (h .solution) ≡ passed
   pub mask : length (c .mask) ≡ maskCost (orderIn h) s
   pub nonzero : length (c .nonzero) ≡ nonzeroCost (orderIn h) s
-  pub drawn : NoneZero (orderIn h) (c .nonzero)
+  pub drawn : NoneZero (orderIn h .field) (c .nonzero)
   pub says : called h c .says ≡ gives (tells (revealedBy s) (openedIn h c s))
   pub after : hostAfter h c ≡ stepped h c s
 
@@ -141,10 +122,6 @@ Counted o c Done = c ≡ sums o (stepList (o .size))
 pub record Recorded (h : Host) : Type 0 where
   pub mask : h .progress .mask ≡ length (h .mask)
   pub nonzero : h .progress .nonzero ≡ length (h .nonzero)
-
--- a tape that begins with the draws ds: the same draws, and not the same bytes
-abbrev pub Begins : Order → List ℕ → List ℕ → Type 0
-Begins o ds tape = SameDraws (fieldOf (o .field)) (length ds) ds tape
 
 -- 3. At an end, a whole solve leaves the host's table, and reports its counts and its stop; at done it leaves the host's solution too, byte for
 -- byte
@@ -174,15 +151,14 @@ pub record Admitted (o : Order) (t x : List ℕ) : Type 0 where
 pub record Fit (o : Order) (s : Step) (c : Beside) : Type 0 where
   pub mask : length (c .mask) ≡ maskCost o s
   pub nonzero : length (c .nonzero) ≡ nonzeroCost o s
-  pub drawn : NoneZero o (c .nonzero)
+  pub drawn : NoneZero (o .field) (c .nonzero)
 
 -- k calls of a host that lends what `lend` makes of what it has
-unfoldable pub calls : (Host → Beside) → ℕ → Host → List Beside
-calls lend zero h = []
-calls lend (suc k) h = let cs = calls lend k h in cs ++ (lend (drive h cs) ∷ [])
+abbrev pub calls : (Host → Beside) → ℕ → Host → List Beside
+calls lend k h = callsBy hostAfter lend k h
 
-unfoldable pub driven : (Host → Beside) → ℕ → Host → Host
-driven lend k h = drive h (calls lend k h)
+abbrev pub driven : (Host → Beside) → ℕ → Host → Host
+driven lend k h = drivenBy hostAfter lend k h
 
 -- a host that lends what the step asks for, at each step that it comes to
 pub record Supplies (o : Order) (first : Host) (lend : Host → Beside) : Type 0 where
