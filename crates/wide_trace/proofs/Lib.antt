@@ -1,0 +1,11 @@
+pub mod Numbers
+pub mod Call
+pub mod Own
+pub mod Pivot
+pub mod Written
+pub mod Reached
+pub mod Run
+pub mod Progress
+pub mod Wanted
+pub mod Columns
+pub mod Square

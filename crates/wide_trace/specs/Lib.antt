@@ -1,0 +1,2 @@
+pub mod WideTrace
+pub mod WideSquare

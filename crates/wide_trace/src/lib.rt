@@ -1,0 +1,1 @@
+// Theory only: a run of wide step calls against the wide whole solve. Stands on wide.
