@@ -4,7 +4,8 @@
  * 16 or of 256 elements, where each entry of A and b is held as 2, 3 or 4 shares
  * whose sum (exclusive or) is the entry. It solves the whole system in one call,
  * or one small step to a call, so that a host can do other work in between. It
- * also deals plain values into shares and gathers shares back. For the laboratory
+ * also deals plain values into shares and gathers shares back. For MAYO there are
+ * calls for wide systems, with more unknowns than equations. For the laboratory
  * there is an unmasked twin, hz_plain, that solves plain values in the open. Two
  * sites can swap a shared table with its numbers as one record. The library makes
  * no random numbers: the host lends them, on two tapes. The inputs of a call
@@ -45,13 +46,35 @@
  * shuts out 0x00, 0x10, 0x20 .. 0xF0.
  * Draws are taken from the front, each byte once. Never lend a byte a second
  * time: the secrecy of the shares rests on it.
- * hz_solve and hz_deal take tapes as long as needed or longer and read only the
- * part that is needed. hz_step wants exactly the draws of its step, and hz_wanted
- * tells beforehand how many these are.
- * hz_counts tells how many draws a full solve needs. A deal needs m(m+1)(n-1).
+ * hz_solve, hz_wide_solve and hz_deal take tapes as long as needed or longer and
+ * read only the part that is needed. hz_step and hz_wide_step want exactly the
+ * draws of their step, and hz_wanted and hz_wide_wanted tell beforehand how many
+ * these are. hz_counts tells how many draws a full solve needs, and hz_wide_counts
+ * how many a whole wide solve may need. A deal needs m(m+1)(n-1).
  * A record counts the draws that its steps took. So where both tapes of a full
  * solve are fetched beforehand, words HZ_MASK_TAKEN and HZ_NONZERO_TAKEN of the
- * record say where on them the next step's draws begin.
+ * record (HZ_WIDE_MASK_TAKEN and HZ_WIDE_NONZERO_TAKEN of a wide one) say where on
+ * them the next step's draws begin.
+ *
+ *
+ * WIDE SYSTEMS
+ *
+ * M equations in C unknowns over the field of 16: rows M from 1 to 96, columns C
+ * from M to 144. T = [A | b] has M rows and C+1 columns, b is column C+1, and
+ * share s of row r, column c is byte
+ *
+ *     ((r-1)(C+1) + (c-1))·n + (s-1)
+ *
+ * of a table of M(C+1)n bytes. The solution has C bytes. A host deals its table
+ * itself, or takes it from the steps of its signing scheme: for each entry any n
+ * bytes 0..15 whose sum is the entry.
+ *
+ * The pivots are the columns that the columns before them don't combine to (the
+ * empty combination is 0: a column of zeros is no pivot). At most M of them can
+ * be. If there are M, the system is solved by exactly one x that is 0 at every
+ * column that is no pivot, whatever b is: that is the solution. If there are
+ * fewer, the rows' rank is below M and the system is short. Which columns are
+ * pivots becomes known on the way, and is public.
  *
  *
  * EXCHANGE RECORD
@@ -99,8 +122,9 @@
  * Nothing lent is changed, except answer itself.
  *
  *     1  field neither 16 nor 256               the number
+ *        (hz_wide calls: not 16)
  *     2  shares below 2 or above 4              the number
- *     3  size below 1 or above 96               the number
+ *     3  size, or rows, below 1 or above 96     the number
  *     4  input table or value list              length wanted
  *        of wrong length
  *     5  solution or target of wrong length     length wanted
@@ -110,10 +134,12 @@
  *     8  nonzero tape too short                 length wanted
  *     9  a nonzero draw that is needed is 0     first such place, from 0
  *    10  record: no such place for this size    0
- *    11  record: already stopped or done        0
- *    12  hz_step at Scale: the pivot is 0       j, j, 0: row, column, share
- *    14  hz_step: mask tape too long            length wanted
- *    15  hz_step: nonzero tape too long         length wanted
+ *        (a wide one: for these pivots)
+ *    11  record: already stopped, short or done 0
+ *    12  a step at Scale: the pivot is 0        its row, j, 0: row, column, share
+ *                                               (hz_step: the row is j)
+ *    14  a step: mask tape too long             length wanted
+ *    15  a step: nonzero tape too long          length wanted
  *    16  hz_read: a tagged field has not the    its first offset
  *        tag that is due
  *    17  hz_read: the input ends before or      its first offset
@@ -122,15 +148,17 @@
  *    18  hz_read: bytes after the end           the first one's offset
  *    19  record: its counters are not the       0
  *        draws of the steps before its place
- *    20  hz_step at Lift, field 16: byte j-1    j
+ *    20  a step at Lift, field 16: byte j-1     j
  *        of the solution is 16 or more
+ *    21  hz_wide calls: columns below the       the number
+ *        rows or above 144
  *
  * 13 is none of a call's: desk, which prints the counts of an order, gives it.
  * Where several apply, the first in the call's own order is given.
  *
- * HZ_BAD_WORDS: record has not exactly HZ_RECORD_WORDS words, or answer not
- * exactly HZ_ANSWER_WORDS. This is looked at before everything else, and nothing
- * at all is changed, answer included.
+ * HZ_BAD_WORDS: record has not exactly HZ_RECORD_WORDS words (a wide one:
+ * HZ_WIDE_RECORD_WORDS), or answer not exactly HZ_ANSWER_WORDS. This is looked at
+ * before everything else, and nothing at all is changed, answer included.
  */
 #ifndef HOSTOZARO_H
 #define HOSTOZARO_H
@@ -142,10 +170,11 @@
 extern "C" {
 #endif
 
-#define HZ_VERSION "0.15" /* ./install takes it from here for pkg-config */
+#define HZ_VERSION "0.16" /* ./install takes it from here for pkg-config */
 
-#define HZ_RECORD_WORDS 8
-#define HZ_ANSWER_WORDS 4
+#define HZ_RECORD_WORDS        8
+#define HZ_WIDE_RECORD_WORDS 106
+#define HZ_ANSWER_WORDS        4
 
 #define HZ_TABLE_AT     16 /* where the table begins in an exchange record */
 #define HZ_BESIDE_TABLE 19 /* the bytes of such a record beside its table */
@@ -155,13 +184,14 @@ extern "C" {
 #define HZ_MOVED      1 /* step: done, and nothing was opened */
 #define HZ_OPENED     2 /* step: answer: j, x_j */
 #define HZ_STOPPED    3 /* step, plain: answer: j.   solve: answer: j, steps, mask draws, nonzero draws */
-#define HZ_DONE       4 /* step: the last one. answer: x_1 */
+#define HZ_DONE       4 /* step: the last one. answer: x_1.   wide step: answer: j, x_j */
 #define HZ_SOLVED     5 /* solve: answer: steps, mask draws, nonzero draws.   plain: all 0 */
 #define HZ_FILLED     6 /* deal, gather, write */
 #define HZ_FRESH      7 /* start */
 #define HZ_COUNTS     8 /* counts: answer: steps, mask draws, nonzero draws */
-#define HZ_WANTED     9 /* wanted: answer: mask draws, nonzero draws */
+#define HZ_WANTED     9 /* wanted, wide counts: answer: mask draws, nonzero draws */
 #define HZ_SYSTEM    10 /* read: answer: field, shares, size, length of the table */
+#define HZ_SHORT     11 /* wide step: all 0.   wide solve: answer: steps, mask draws, nonzero draws */
 #define HZ_BAD_WORDS 99 /* record or answer of wrong length: nothing was written */
 
 /* The words of a record, and what its word HZ_STEP may say. */
@@ -182,6 +212,23 @@ extern "C" {
 #define HZ_AT_STOPPED 5 /* as HZ_CHECK: stopped at column j */
 #define HZ_AT_DONE    6 /* j and k are 0 */
 #define HZ_LIFT       7 /* j, 2 <= j <= m; k is 0 */
+
+/* The words of a wide record. Its word HZ_WIDE_STEP says what HZ_STEP does, but for
+ * HZ_AT_STOPPED, which it never is, and HZ_AT_SHORT. Which j and k go with which
+ * step and which pivots, hz_wide_step says. */
+#define HZ_WIDE_FIELD         0
+#define HZ_WIDE_SHARES        1
+#define HZ_WIDE_ROWS          2
+#define HZ_WIDE_COLUMNS       3
+#define HZ_WIDE_STEP          4
+#define HZ_WIDE_J             5
+#define HZ_WIDE_K             6
+#define HZ_WIDE_MASK_TAKEN    7
+#define HZ_WIDE_NONZERO_TAKEN 8
+#define HZ_WIDE_FOUND         9 /* how many pivots are found */
+#define HZ_WIDE_PIVOTS       10 /* the first of 96 words: the pivots found, ascending, then zeros */
+
+#define HZ_AT_SHORT   8 /* j and k are 0 */
 
 /* A fresh record, at the first step of a system of these sizes.
  *
@@ -314,6 +361,95 @@ uint64_t hz_gather(uint64_t field, uint64_t shares, uint64_t size,
 uint64_t hz_counts(uint64_t field, uint64_t shares, uint64_t size,
                    uint64_t *answer, size_t answer_len);
 
+/* A fresh wide record, at the first step of a wide system of these sizes.
+ *
+ * HZ_FRESH: record becomes field, shares, rows, columns, the first place (Check(1)
+ * for one row, else Mix(1,2)), no draws taken, no pivots found.
+ * Refusals, in order: 1, 2, 3, 21. */
+uint64_t hz_wide_start(uint64_t field, uint64_t shares, uint64_t rows, uint64_t columns,
+                       uint64_t *record, size_t record_len,
+                       uint64_t *answer, size_t answer_len);
+
+/* What hz_wide_solve must be lent.
+ *
+ * HZ_WANTED: answer: mask draws, nonzero draws. They are N mask draws a row and, for
+ *     every column, the mask draws of its steps as if row 1 took its pivot; and n-1
+ *     nonzero draws a row. That is enough whichever columns are pivots; how many are
+ *     taken depends on that, and hz_wide_solve tells it.
+ * Refusals, in order: 1, 2, 3, 21. */
+uint64_t hz_wide_counts(uint64_t field, uint64_t shares, uint64_t rows, uint64_t columns,
+                        uint64_t *answer, size_t answer_len);
+
+/* What the step that the wide record stands at must be lent by the next hz_wide_step.
+ *
+ * HZ_WANTED: answer: its mask draws, its nonzero draws. The record is only read.
+ * Refusals, in order: 1, 2, 3, 21 (the record's numbers), 10, 19, 11. */
+uint64_t hz_wide_wanted(const uint64_t *record, size_t record_len,
+                        uint64_t *answer, size_t answer_len);
+
+/* Does the step that the wide record stands at, and moves the record to the next
+ * place: the draws lent are added to its counters.
+ *
+ * The list, as the pivots come up: r = 1; for j = 1..C, while r <= M: Mix(j,k) for
+ * k = r+1..M, Check(j); if Check(j) opened 1, column j is passed over; if it opened
+ * 0, column j is a pivot, and row r its row: Scale(j), Clear(j,k) for k = r+1..M, and
+ * r becomes r+1. Then, if there are M pivots, from the last back: Open(j), and Lift(j)
+ * where j is not the first pivot.
+ * The steps are those of hz_step, with L = C+2-j, and draws as there; the row of
+ * column j stands where row j does: row r while the column is sought, and the pivot's
+ * own row later. So k is a row, and Lift(j) takes x_j·T[k,j] from T[k,C+1] in the
+ * rows k above the pivot's row.
+ *
+ * HZ_MOVED: after Mix, Check, Scale, Clear, Lift, also after a Check that passed its
+ *     column over, unless the answer is HZ_SHORT. The record is at the next place; it
+ *     keeps column j as a pivot from its Check on. The solution is unchanged.
+ * HZ_OPENED: after Open(j), where j is not the first pivot. Byte j-1 of the solution is
+ *     x_j and its other bytes are unchanged; so is the table. The record is at Lift(j).
+ * HZ_DONE: the same after Open of the first pivot; the record becomes done (j, k: 0).
+ *     The bytes of columns that are no pivots were never written: they hold what the
+ *     host put there.
+ * HZ_SHORT: the last column was done, and a row has no pivot. The record becomes short
+ *     (j, k: 0). The step itself, a Check or a Clear, was done on the table as ever;
+ *     the solution is unchanged.
+ * Refusals, in order: 1, 2, 3, 21 (the record's numbers), 4 (table M(C+1)n), 5
+ *     (solution C, whatever the step), 10, 19, 11, 6 (the whole table), 7, 14, 8, 15,
+ *     9 (place within the bytes lent), 20, 12.
+ *     10 is any place that its pivots can't have, and any pivots that no place has:
+ *     more than rows, not ascending in 1..C, a slot beyond those found that is not 0;
+ *     another step number, a j or k that the list has not at these pivots, or not 0
+ *     where the step carries none. Before column j has its pivot (Mix, Check) all
+ *     pivots found are below j and fewer than M; from its Scale on (Scale, Clear) the
+ *     last one is j; Open and Lift have M pivots, j among them; short has fewer than M
+ *     and done has M. 19 is any pair of counters but the sums of the draws of the steps
+ *     before the place, by its pivots: a short place's are those of every column, and a
+ *     done one's of the whole list. 10, 12 and 19 cannot come up while a record that
+ *     hz_wide_start made and its table are touched by hz_wide_step alone; nor can 20,
+ *     where that holds of the solution too. */
+uint64_t hz_wide_step(uint64_t *record, size_t record_len,
+                      uint8_t *table, size_t table_len,
+                      uint8_t *solution, size_t solution_len,
+                      const uint8_t *mask, size_t mask_len,
+                      const uint8_t *nonzero, size_t nonzero_len,
+                      uint64_t *answer, size_t answer_len);
+
+/* Solves a whole wide system: every step of its list, the draws in order.
+ *
+ * HZ_SOLVED: there are M pivots. The solution is the one x that solves the system and
+ *     is 0 at every column that is no pivot. answer says how many steps were taken, and
+ *     how many draws of each tape.
+ * HZ_SHORT: there are fewer than M pivots. All C bytes of the solution become 0. answer
+ *     counts the same.
+ * Either way the table is as after the last step taken.
+ * Refusals, in order: 1, 2, 3, 21, 4 (table M(C+1)n), 5 (solution C), 6 (table), 7, 8
+ *     (the lengths that hz_wide_counts tells, whatever the pivots), 9 (among the first
+ *     M(n-1) bytes, likewise). */
+uint64_t hz_wide_solve(uint64_t field, uint64_t shares, uint64_t rows, uint64_t columns,
+                       uint8_t *table, size_t table_len,
+                       uint8_t *solution, size_t solution_len,
+                       const uint8_t *mask, size_t mask_len,
+                       const uint8_t *nonzero, size_t nonzero_len,
+                       uint64_t *answer, size_t answer_len);
+
 /* Writes the exchange record of a system into target.
  *
  * HZ_FILLED: every byte of target is written. The table is only read.
@@ -361,4 +497,5 @@ uint64_t hz_read(const uint8_t *input, size_t input_len,
  *     }
  *
  * host_example/solve.c is a program of this kind, and drives single steps too;
- * host_example/ahead.c drives them from long tapes that are fetched ahead. */
+ * host_example/ahead.c drives them from long tapes that are fetched ahead, and
+ * host_example/mayo.c solves wide systems of MAYO's sizes. */

@@ -1,10 +1,11 @@
 /* Compares every call of the library with the model, on many inputs.
  *
- *     host_test [SEED [CASE]]
+ *     host_test [SEED [CASE | square | wide]]
  *
  * SEED is 1 where none is given. With CASE only that case is run: each case's
- * numbers come from the seed and the case's own number alone. The first
- * difference is printed as one line and ends the run. */
+ * numbers come from the seed and the case's own number alone. With square or wide
+ * only the cases of such systems are run; those of wide ones are in wide_test.h. The
+ * first difference is printed as one line and ends the run. */
 #define _DEFAULT_SOURCE /* for mmap */
 #include "hostozaro.h"
 #include "model.h"
@@ -21,6 +22,8 @@
 #define MAX_TABLE (96 * 97 * 4)
 #define MAX_MASK 3820512 /* F256, n = 4, m = 96 */
 #define MAX_NONZERO (96 * 3)
+#define MAX_WIDE_TABLE (96 * 145 * 4)
+#define MAX_WIDE_MASK 12528144 /* n = 4, 96 rows, 144 columns */
 #define MAX_TOLD 65535 /* the longest body that an exchange record can tell of */
 #define SPARE 4096 /* how much longer than right one fault makes a buffer */
 #define ROOM (4 * SPARE)
@@ -75,13 +78,14 @@ typedef struct {
 } buffer;
 
 static buffer table = {.name = "table", .capacity = MAX_TOLD + ROOM, .width = 1};
-static buffer solution = {.name = "solution", .capacity = 96 + ROOM, .width = 1};
+static buffer solution = {.name = "solution", .capacity = 144 + ROOM, .width = 1};
 static buffer values = {.name = "values", .capacity = MAX_TABLE + ROOM, .width = 1};
-static buffer mask = {.name = "mask", .capacity = MAX_MASK + ROOM, .width = 1};
+static buffer mask = {.name = "mask", .capacity = MAX_WIDE_MASK + ROOM, .width = 1};
 static buffer nonzero = {.name = "nonzero", .capacity = MAX_NONZERO + ROOM, .width = 1};
 static buffer target = {.name = "target", .capacity = HZ_BESIDE_TABLE + MAX_TABLE + ROOM, .width = 1};
 static buffer input = {.name = "input", .capacity = HZ_BESIDE_TABLE + MAX_TOLD + ROOM, .width = 1};
 static buffer record = {.name = "record", .capacity = 16, .width = 8};
+static buffer wide_record = {.name = "record", .capacity = 128, .width = 8};
 static buffer answer = {.name = "answer", .capacity = 16, .width = 8};
 
 static uint64_t *words(const buffer *b)
@@ -136,9 +140,28 @@ static void stretch(buffer *b, size_t len)
 /* ---- Calls ---- */
 
 static uint64_t field, shares, size; /* what the next call is given */
+static uint64_t rows, columns;       /* by those for wide systems in place of size */
 static uint64_t calls, calls_in_case;
 
-enum { START, WANTED, STEP, SOLVE, PLAIN, DEAL, GATHER, COUNTS, WRITE, READ, KINDS };
+enum {
+    START,
+    WANTED,
+    STEP,
+    SOLVE,
+    PLAIN,
+    DEAL,
+    GATHER,
+    COUNTS,
+    WRITE,
+    READ,
+    SQUARE_KINDS,
+    WIDE_START = SQUARE_KINDS,
+    WIDE_COUNTS,
+    WIDE_WANTED,
+    WIDE_STEP,
+    WIDE_SOLVE,
+    KINDS,
+};
 
 static const struct {
     const char *name;
@@ -155,9 +178,25 @@ static const struct {
     [COUNTS] = {"hz_counts", {&answer}, {NULL}},
     [WRITE] = {"hz_write", {&table, &target, &answer}, {&table}},
     [READ] = {"hz_read", {&input, &answer}, {&input}},
+    [WIDE_START] = {"hz_wide_start", {&wide_record, &answer}, {NULL}},
+    [WIDE_COUNTS] = {"hz_wide_counts", {&answer}, {NULL}},
+    [WIDE_WANTED] = {"hz_wide_wanted", {&wide_record, &answer}, {&wide_record}},
+    [WIDE_STEP] = {"hz_wide_step",
+                   {&wide_record, &table, &solution, &mask, &nonzero, &answer},
+                   {&mask, &nonzero}},
+    [WIDE_SOLVE] = {"hz_wide_solve", {&table, &solution, &mask, &nonzero, &answer}, {&mask, &nonzero}},
 };
 
 static int last_kind; /* of the last call */
+
+/* How many words a record has, but for zeros at its end. */
+static size_t last_word(const buffer *b)
+{
+    size_t len = b->len;
+    while (len > 0 && words(b)[len - 1] == 0)
+        len--;
+    return len;
+}
 
 /* Opens the line that tells of a difference. */
 static void difference(void)
@@ -167,6 +206,11 @@ static void difference(void)
     if (last_kind == STEP || last_kind == WANTED)
         for (size_t i = 0; i < record.len; i++)
             printf("%s%" PRIu64, i == 0 ? " record " : ",", words(&record)[i]);
+    else if (last_kind == WIDE_STEP || last_kind == WIDE_WANTED)
+        for (size_t i = 0; i < last_word(&wide_record); i++)
+            printf("%s%" PRIu64, i == 0 ? " record " : ",", words(&wide_record)[i]);
+    else if (last_kind >= SQUARE_KINDS)
+        printf(" field %" PRIu64 " shares %" PRIu64 " rows %" PRIu64 " columns %" PRIu64, field, shares, rows, columns);
     else if (last_kind == PLAIN)
         printf(" field %" PRIu64 " size %" PRIu64, field, size);
     else if (last_kind == READ)
@@ -251,6 +295,18 @@ static void same_bytes(const buffer *b, const uint8_t *wanted, const char *whose
             return side##_write(field, shares, size, BYTES(copy, table), BYTES(copy, target), WORDS(copy, answer));  \
         case READ:                                                                                                    \
             return side##_read(BYTES(copy, input), WORDS(copy, answer));                                             \
+        case WIDE_START:                                                                                              \
+            return side##_wide_start(field, shares, rows, columns, WORDS(copy, wide_record), WORDS(copy, answer));   \
+        case WIDE_COUNTS:                                                                                             \
+            return side##_wide_counts(field, shares, rows, columns, WORDS(copy, answer));                            \
+        case WIDE_WANTED:                                                                                             \
+            return side##_wide_wanted(WORDS(copy, wide_record), WORDS(copy, answer));                                \
+        case WIDE_STEP:                                                                                               \
+            return side##_wide_step(WORDS(copy, wide_record), BYTES(copy, table), BYTES(copy, solution),             \
+                                    BYTES(copy, mask), BYTES(copy, nonzero), WORDS(copy, answer));                    \
+        case WIDE_SOLVE:                                                                                              \
+            return side##_wide_solve(field, shares, rows, columns, BYTES(copy, table), BYTES(copy, solution),        \
+                                     BYTES(copy, mask), BYTES(copy, nonzero), WORDS(copy, answer));                   \
         default:                                                                                                      \
             return side##_counts(field, shares, size, WORDS(copy, answer));                                          \
         }                                                                                                             \
@@ -283,12 +339,16 @@ static void note_flag(int kind)
         flags_made[WHOLE_SOLVE][field != 16][shares - 2]++;
 }
 
+static uint64_t calls_of[KINDS];
+static uint64_t refused_by[KINDS][22]; /* how many of them were refused, by number */
+
 /* Calls both sides and compares the answer and every lent byte. */
 static uint64_t call(int kind)
 {
     buffer *const *lent = kinds[kind].lent;
     last_kind = kind;
     calls++;
+    calls_of[kind]++;
     calls_in_case++;
     fill(answer.lent, bytes_of(&answer));
     for (int i = 0; lent[i] != NULL; i++)
@@ -313,6 +373,8 @@ static uint64_t call(int kind)
     }
     for (int i = 0; lent[i] != NULL; i++)
         memcpy(lent[i]->lent, lent[i]->model, bytes_of(lent[i]));
+    if (code == HZ_REFUSED)
+        refused_by[kind][words(&answer)[0]]++;
     return code;
 }
 
@@ -758,7 +820,7 @@ static void case_numbers(void)
     set_record(step, j, k);
     if (one_in(4))
         spoil();
-    for (int kind = 0; kind < KINDS; kind++)
+    for (int kind = 0; kind < SQUARE_KINDS; kind++)
         call(kind);
 }
 
@@ -766,7 +828,7 @@ static void case_numbers(void)
 static void case_spoilt(void)
 {
     choose_sizes(small_size());
-    for (int kind = 0; kind < KINDS; kind++) {
+    for (int kind = 0; kind < SQUARE_KINDS; kind++) {
         any_values();
         make_table();
         make_solution();
@@ -1226,11 +1288,13 @@ static void case_of_places(uint64_t i)
 
 /* The numbers by which each call refuses a buffer that is shorter or longer than it
  * wants. R-2 has two for the tapes of a step; other tapes may be longer, told by 0. */
-static const struct {
+typedef struct {
     int kind;
     buffer *lent;
     uint64_t shorter, longer;
-} lengths[] = {
+} length;
+
+static const length lengths[] = {
     {STEP, &table, 4, 4},   {STEP, &solution, 5, 5},  {STEP, &mask, 7, 14},  {STEP, &nonzero, 8, 15},
     {SOLVE, &table, 4, 4},  {SOLVE, &solution, 5, 5}, {SOLVE, &mask, 7, 0},  {SOLVE, &nonzero, 8, 0},
     {DEAL, &values, 4, 4},  {DEAL, &table, 5, 5},     {DEAL, &mask, 7, 0},
@@ -1239,9 +1303,27 @@ static const struct {
 };
 #define LENGTHS (sizeof lengths / sizeof lengths[0])
 
-/* Right tapes for a call, and for hz_step at the record's place. */
+/* The calls that want exactly the draws of their step. */
+static bool is_step_call(int kind)
+{
+    return kind == STEP || kind == WIDE_STEP;
+}
+
+static void make_wide_tapes(int kind)
+{
+    uint64_t step = words(&wide_record)[HZ_WIDE_STEP], j = words(&wide_record)[HZ_WIDE_J];
+    make_mask(kind == WIDE_STEP ? model_mask_draws(16, shares, columns, step, j)
+                                : model_wide_mask_draws(shares, rows, columns));
+    make_nonzero(kind == WIDE_STEP ? model_nonzero_draws(shares, step) : rows * (shares - 1));
+}
+
+/* Right tapes for a call, and for a step at the record's place. */
 static void make_tapes(int kind)
 {
+    if (kind >= SQUARE_KINDS) {
+        make_wide_tapes(kind);
+        return;
+    }
     uint64_t step = words(&record)[HZ_STEP], j = words(&record)[HZ_J];
     make_mask(kind == STEP ? model_mask_draws(field, shares, size, step, j)
               : kind == DEAL ? size * (size + 1) * (shares - 1)
@@ -1271,12 +1353,12 @@ static void claim(buffer *b, size_t told, size_t there)
 }
 
 /* One length is wrong; of that buffer the right number of elements is there, or
- * none. */
-static void one_wrong_length(size_t which, uint64_t step)
+ * none. All else is made right by `make`. */
+static void one_wrong_length(const length *rule, uint64_t step, void make(int, uint64_t))
 {
-    int kind = lengths[which].kind;
-    buffer *b = lengths[which].lent;
-    make_right(kind, step);
+    int kind = rule->kind;
+    buffer *b = rule->lent;
+    make(kind, step);
     size_t right = b->len;
     size_t wrong[] = {0, right - 1, right + 1, right + 16, right + PAGE, (size_t)1 << 32, ((size_t)1 << 32) + right,
                       (size_t)1 << 63, SIZE_MAX - 1, SIZE_MAX};
@@ -1284,7 +1366,7 @@ static void one_wrong_length(size_t which, uint64_t step)
         if (wrong[i] == right)
             continue;
         size_t there[] = {wrong[i] < right ? wrong[i] : right, 0};
-        uint64_t number = wrong[i] < right ? lengths[which].shorter : lengths[which].longer;
+        uint64_t number = wrong[i] < right ? rule->shorter : rule->longer;
         bool needed = number == 0; /* a longer tape is accepted, and then its first bytes are read */
         expect(number, needed ? 0 : right, 0, 0);
         for (int half = 0; half < (needed ? 1 : 2); half++) {
@@ -1293,26 +1375,26 @@ static void one_wrong_length(size_t which, uint64_t step)
             claim(b, right, right);
         }
         if (needed)
-            make_right(kind, step);
+            make(kind, step);
     }
 }
 
-/* This length and all those after it in the call's order are wrong, each too short or
- * too long, and nothing is there of any of them. */
-static void all_wrong_from(size_t which, uint64_t step)
+/* This length and all those after it in the call's order, up to the end of the rules, are
+ * wrong, each too short or too long, and nothing is there of any of them. */
+static void all_wrong_from(const length *rule, const length *end, uint64_t step, void make(int, uint64_t))
 {
-    int kind = lengths[which].kind;
-    make_right(kind, step);
-    for (size_t i = which; i < LENGTHS && lengths[i].kind == kind; i++) {
-        size_t right = lengths[i].lent->len;
-        bool longer = right == 0 || (lengths[i].longer != 0 && one_in(2));
-        if (i == which)
-            expect(longer ? lengths[i].longer : lengths[i].shorter, right, 0, 0);
-        claim(lengths[i].lent, longer ? SIZE_MAX - below(9) : right - 1, 0);
+    int kind = rule->kind;
+    make(kind, step);
+    for (const length *r = rule; r < end && r->kind == kind; r++) {
+        size_t right = r->lent->len;
+        bool longer = right == 0 || (r->longer != 0 && one_in(2));
+        if (r == rule)
+            expect(longer ? r->longer : r->shorter, right, 0, 0);
+        claim(r->lent, longer ? SIZE_MAX - below(9) : right - 1, 0);
     }
     call_expecting(kind);
-    for (size_t i = which; i < LENGTHS && lengths[i].kind == kind; i++)
-        lengths[i].lent->more = 0;
+    for (const length *r = rule; r < end && r->kind == kind; r++)
+        r->lent->more = 0;
 }
 
 /* Nothing is there at all: numbers and words are refused before any length. Only what
@@ -1330,7 +1412,7 @@ static void nothing_there(void)
         uint64_t kept = *given[number - 1];
         *given[number - 1] = 97;
         words(&record)[number - 1] = 97;
-        for (int kind = 0; kind < KINDS; kind++)
+        for (int kind = 0; kind < SQUARE_KINDS; kind++)
             if (kind != READ && (kind != PLAIN || number != 2)) /* hz_read is given none, hz_plain no shares */
                 demand(call(kind) == HZ_REFUSED && words(&answer)[0] == number, "a wrong number is not refused");
         *given[number - 1] = kept;
@@ -1338,7 +1420,7 @@ static void nothing_there(void)
     }
     size_t wrong[] = {0, 3, 5, 6, 7, 9, (size_t)1 << 32, ((size_t)1 << 61) + 4, ((size_t)1 << 61) + 8, SIZE_MAX};
     for (size_t i = 0; i < sizeof wrong / sizeof wrong[0]; i++)
-        for (int kind = 0; kind < KINDS; kind++) {
+        for (int kind = 0; kind < SQUARE_KINDS; kind++) {
             claim(&answer, wrong[i], 0);
             demand(call(kind) == HZ_BAD_WORDS, "wrong words of answer are not told");
             claim(&answer, HZ_ANSWER_WORDS, HZ_ANSWER_WORDS);
@@ -1365,8 +1447,8 @@ static void case_of_lengths(uint64_t i)
             bool two_rows = is_pair(step) || step == HZ_LIFT;
             if (lengths[which].kind == STEP ? two_rows && size == 1 : step != HZ_CHECK)
                 continue;
-            one_wrong_length(which, step);
-            all_wrong_from(which, step);
+            one_wrong_length(&lengths[which], step, make_right);
+            all_wrong_from(&lengths[which], lengths + LENGTHS, step, make_right);
         }
     nothing_there();
 }
@@ -1544,7 +1626,7 @@ static void change_tape(buffer *tape, int how, uint64_t shorter, uint64_t longer
         tape->more = more;
 }
 
-/* hz_step or hz_solve with one of the sets of tapes. Where no tape is at fault, what
+/* A step or a whole solve with one of the sets of tapes. Where no tape is at fault, what
  * was expected before is. */
 static void call_with_tapes(int kind, uint64_t set)
 {
@@ -1559,10 +1641,10 @@ static void call_with_tapes(int kind, uint64_t set)
         nonzero.lent[at] = zero_draw();
         expect(9, at, 0, 0);
     }
-    change_tape(&nonzero, nonzero_length, 8, kind == STEP ? 15 : 0);
+    change_tape(&nonzero, nonzero_length, 8, is_step_call(kind) ? 15 : 0);
     for (size_t at = right; zero != NO_ZERO_DRAW && at < nonzero.len; at++)
         nonzero.lent[at] = zero_draw();
-    change_tape(&mask, mask_length, 7, kind == STEP ? 14 : 0);
+    change_tape(&mask, mask_length, 7, is_step_call(kind) ? 14 : 0);
     call_expecting(kind);
     mask.more = nonzero.more = 0;
 }
@@ -1888,10 +1970,10 @@ static int tag_over(size_t at)
     return tag;
 }
 
-/* 6 is told of this place of the table. */
-static void expect_large(size_t at)
+/* 6 is told of this place of a table whose rows have so many entries. */
+static void expect_large(size_t at, uint64_t width)
 {
-    expect(6, at / shares / (size + 1) + 1, at / shares % (size + 1) + 1, at % shares + 1);
+    expect(6, at / shares / width + 1, at / shares % width + 1, at % shares + 1);
 }
 
 /* Small records, which are damaged in every place. Their tables hold 1, 2, 3 and so on:
@@ -1946,7 +2028,7 @@ static void expect_other_body(int tag, size_t at)
         break;
     default:
         if (field == 16 && byte >= 16)
-            expect_large(at - HZ_TABLE_AT);
+            expect_large(at - HZ_TABLE_AT, size + 1);
         else
             expect(0, 0, 0, 0);
     }
@@ -2024,12 +2106,12 @@ enum {
 #define ONE_OF(list) (list)[below(sizeof(list) / sizeof(list)[0])]
 
 /* The table has a byte of 16 or more. */
-static void make_large_entry(void)
+static void make_large_entry(uint64_t width)
 {
     size_t at = below(table.len);
     plant_large(&table, at);
     if (field == 16)
-        expect_large(at);
+        expect_large(at, width);
 }
 
 /* The table is not as long as the numbers want, by its own length or by theirs. */
@@ -2060,7 +2142,7 @@ static void make_content_faults(uint32_t faults)
     static const uint64_t no_fields[] = {0, 1, 15, 17, 31, 255, 257, 4096, 65535};
     static const uint64_t no_shares[] = {0, 1, 5, 255}, no_sizes[] = {0, 97, 255};
     if (faults & 1u << LARGE_ENTRY)
-        make_large_entry();
+        make_large_entry(size + 1);
     if (faults & 1u << OTHER_TABLE)
         make_other_table();
     if (faults & 1u << NO_SIZE) {
@@ -2214,7 +2296,7 @@ static void case_of_write_faults(uint64_t i)
     fresh_words();
     expect(0, 0, 0, 0);
     if (faults & LARGE_BYTE)
-        make_large_entry();
+        make_large_entry(size + 1);
     if (faults & BAD_TARGET) {
         expect(5, HZ_BESIDE_TABLE + table.len, 0, 0);
         make_wrong(&target);
@@ -2545,19 +2627,25 @@ static void leave_list(void)
 #define STEP_FAULTS (NUMBER_FAULTS | FAULT(4) | FAULT(5) | FAULT(10) | LATER_THAN_11)
 #define LAST_FAULT 20
 
-/* 6, 7, 14, 8, 15, 9, 20 and 12, of table and tapes that are right. A byte that 20 is told
- * of at Lift in F16 is none of any other step's business. */
-static void make_later_faults(const place *p, uint32_t faults)
+/* 6, 7, 14, 8, 15, 9, 20 and 12, of table and tapes that are right, at a step on column j
+ * and the row that stands for it; j is 0 where the record has ended. The table's rows have
+ * `width` entries. A byte that 20 is told of at Lift in F16 is none of any other step's
+ * business. */
+static void make_later_faults(uint64_t width, uint64_t step, uint64_t row, uint64_t j, uint32_t faults)
 {
     size_t masks = mask.len, nonzeros = nonzero.len;
-    if (p->j != 0)
-        pivot(p->j)[0] ^= pivot_value(p->j) ^ (faults & FAULT(12) ? 0 : nonzero_element());
-    if (faults & FAULT(12) && p->step == HZ_SCALE)
-        expect(12, p->j, p->j, 0);
-    if (p->j != 0 && (faults & FAULT(20) || p->step == HZ_LIFT))
-        solution.lent[p->j - 1] = faults & FAULT(20) ? too_large() : element();
-    if (faults & FAULT(20) && p->step == HZ_LIFT && field == 16)
-        expect(20, p->j, 0, 0);
+    if (j != 0) {
+        uint8_t *entry = table.lent + ((row - 1) * width + (j - 1)) * shares, sum = 0;
+        for (uint64_t s = 0; s < shares; s++)
+            sum ^= entry[s];
+        entry[0] ^= sum ^ (faults & FAULT(12) ? 0 : nonzero_element());
+    }
+    if (faults & FAULT(12) && step == HZ_SCALE)
+        expect(12, row, j, 0);
+    if (j != 0 && (faults & FAULT(20) || step == HZ_LIFT))
+        solution.lent[j - 1] = faults & FAULT(20) ? too_large() : element();
+    if (faults & FAULT(20) && step == HZ_LIFT && field == 16)
+        expect(20, j, 0, 0);
     if (faults & FAULT(9) && nonzeros > 0) {
         size_t at = below(nonzeros);
         nonzero.lent[at] = zero_draw();
@@ -2580,7 +2668,7 @@ static void make_later_faults(const place *p, uint32_t faults)
         expect(7, masks, 0, 0);
     }
     if (faults & FAULT(6) && field == 16)
-        make_large_entry();
+        make_large_entry(width);
 }
 
 /* 10, 19 and 11, of a record at this place whose counters are right or not. */
@@ -2644,7 +2732,7 @@ static void step_at(size_t at, int kind, uint32_t faults)
     memcpy(table.lent, first_table, table.len);
     make_tapes(STEP);
     expect(0, 0, 0, 0);
-    make_later_faults(p, faults);
+    make_later_faults(size + 1, p->step, p->j, p->j, faults);
     make_place_faults(p, right, faults);
     if (faults & FAULT(5)) {
         expect(5, solution.len, 0, 0);
@@ -3509,7 +3597,7 @@ static bool tell_flags(void)
     return fewest >= 1000;
 }
 
-/* What a whole run must have gone through. */
+/* What a run of all square systems must have gone through. */
 static void look_back(void)
 {
     bool all_met = true;
@@ -3581,12 +3669,14 @@ static void case_random(uint64_t i)
     }
 }
 
-/* The cases in the order of their numbers. Large systems come last, so that a
- * difference shows first in a small one. */
-static const struct {
+typedef struct {
     uint64_t count;
     void (*run)(uint64_t i); /* i from 0 to count - 1 */
-} cases[] = {
+} kind_of_case;
+
+/* The cases in the order of their numbers, those of wide systems after these. Large systems
+ * come last, so that a difference shows first in a small one. */
+static const kind_of_case square_cases[] = {
     {ALL_SMALL, case_of_places},
     {ALL_FLAG_VECTORS, case_of_flag_vectors},
     {ALL_LIFT_PRODUCTS, case_of_lift_products},
@@ -3619,25 +3709,56 @@ static const struct {
     {ALL_LARGE, case_large},
 };
 
+#include "wide_test.h"
+
+enum { SQUARE, WIDE, PARTS };
+
+static const struct {
+    const kind_of_case *kinds;
+    size_t len;
+    void (*look_back)(void);
+} parts[PARTS] = {
+    [SQUARE] = {square_cases, sizeof square_cases / sizeof square_cases[0], look_back},
+    [WIDE] = {wide_cases, sizeof wide_cases / sizeof wide_cases[0], look_back_wide},
+};
+
+/* The number of a part's first case. */
+static uint64_t first_of(int part)
+{
+    uint64_t number = 0;
+    for (int before = 0; before < part; before++)
+        for (size_t kind = 0; kind < parts[before].len; kind++)
+            number += parts[before].kinds[kind].count;
+    return number;
+}
+
 /* Runs the case of case_number; false where there is none. */
 static bool run_case(void)
 {
     state = seed * 0x2545f4914f6cdd1du ^ case_number * 0xd6e8feb86659fd93u;
     calls_in_case = 0;
     uint64_t i = case_number;
-    for (size_t kind = 0; kind < sizeof cases / sizeof cases[0]; kind++) {
-        if (i < cases[kind].count) {
-            cases[kind].run(i);
-            return true;
+    for (int part = 0; part < PARTS; part++)
+        for (size_t kind = 0; kind < parts[part].len; kind++) {
+            if (i < parts[part].kinds[kind].count) {
+                parts[part].kinds[kind].run(i);
+                return true;
+            }
+            i -= parts[part].kinds[kind].count;
         }
-        i -= cases[kind].count;
-    }
     return false;
+}
+
+static void run_part(int part)
+{
+    for (case_number = first_of(part); case_number < first_of(part + 1); case_number++)
+        run_case();
+    parts[part].look_back();
 }
 
 int main(int argc, char **argv)
 {
-    buffer *all[] = {&table, &solution, &values, &mask, &nonzero, &target, &input, &record, &answer};
+    buffer *all[] = {&table, &solution, &values, &mask, &nonzero, &target, &input, &record, &wide_record, &answer};
     int signals[] = {SIGSEGV, SIGBUS, SIGILL, SIGFPE, SIGABRT};
     for (size_t i = 0; i < sizeof signals / sizeof signals[0]; i++)
         signal(signals[i], crashed);
@@ -3645,17 +3766,19 @@ int main(int argc, char **argv)
         seed = strtoull(argv[1], NULL, 10);
     for (size_t i = 0; i < sizeof all / sizeof all[0]; i++)
         make_buffer(all[i]);
-    if (argc > 2) {
+    bool square_alone = argc > 2 && strcmp(argv[2], "square") == 0;
+    bool wide_alone = argc > 2 && strcmp(argv[2], "wide") == 0;
+    if (argc > 2 && !square_alone && !wide_alone) {
         case_number = strtoull(argv[2], NULL, 10);
         if (!run_case()) {
             printf("there is no case %" PRIu64 "\n", case_number);
             return 2;
         }
-    } else {
-        while (run_case())
-            case_number++;
-        look_back();
     }
+    if (argc <= 2 || square_alone)
+        run_part(SQUARE);
+    if (argc <= 2 || wide_alone)
+        run_part(WIDE);
     printf("%" PRIu64 " passed, 0 failed\n", calls);
     return 0;
 }

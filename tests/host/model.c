@@ -40,7 +40,7 @@ typedef struct {
 } tape;
 
 typedef struct {
-    uint64_t field, n, m;
+    uint64_t field, n, rows, columns; /* columns of A; a square system has as many as rows */
     uint8_t *table;
     tape mask, nonzero;
 } task;
@@ -56,7 +56,7 @@ static uint8_t draw(const task *t, tape *from)
 
 static uint8_t *entry_at(const task *t, uint64_t row, uint64_t column)
 {
-    return t->table + ((row - 1) * (t->m + 1) + (column - 1)) * t->n;
+    return t->table + ((row - 1) * (t->columns + 1) + (column - 1)) * t->n;
 }
 
 static sharing get(const task *t, uint64_t row, uint64_t column)
@@ -187,137 +187,157 @@ static bool inversion(task *t, sharing a, uint8_t factors[4])
     return true;
 }
 
-/* ---- The steps ---- */
+/* ---- The steps ----
+ *
+ * Each works on column j and on the row that stands for it: row j itself in a square
+ * system, and in a wide one (R-8) the row of its pivot. */
 
-static void mix(task *t, uint64_t j, uint64_t k)
+static void mix(task *t, uint64_t row, uint64_t j, uint64_t k)
 {
-    sharing flag = zero_flag(t, get(t, j, j));
-    for (uint64_t c = j; c <= t->m + 1; c++)
-        put(t, j, c, plus(t, get(t, j, c), product(t, flag, get(t, k, c))));
+    sharing flag = zero_flag(t, get(t, row, j));
+    for (uint64_t c = j; c <= t->columns + 1; c++)
+        put(t, row, c, plus(t, get(t, row, c), product(t, flag, get(t, k, c))));
 }
 
-static bool check_stops(task *t, uint64_t j)
+/* What Check opens: whether the entry is 0. */
+static bool check(task *t, uint64_t row, uint64_t j)
 {
-    return opening(t, zero_flag(t, get(t, j, j))) == 1;
+    return opening(t, zero_flag(t, get(t, row, j))) == 1;
 }
 
 /* False, and nothing changed, where the pivot is 0. */
-static bool scale(task *t, uint64_t j)
+static bool scale(task *t, uint64_t row, uint64_t j)
 {
     uint8_t factors[4];
-    if (!inversion(t, get(t, j, j), factors))
+    if (!inversion(t, get(t, row, j), factors))
         return false;
     for (uint64_t i = 0; i < t->n; i++)
-        for (uint64_t c = j; c <= t->m + 1; c++)
-            put(t, j, c, refresh(t, scaled(t, get(t, j, c), factors[i])));
+        for (uint64_t c = j; c <= t->columns + 1; c++)
+            put(t, row, c, refresh(t, scaled(t, get(t, row, c), factors[i])));
     return true;
 }
 
-static void clear(task *t, uint64_t j, uint64_t k)
+static void clear(task *t, uint64_t row, uint64_t j, uint64_t k)
 {
     sharing copy = get(t, k, j); /* column j is the first to change it */
-    for (uint64_t c = j; c <= t->m + 1; c++)
-        put(t, k, c, plus(t, get(t, k, c), product(t, copy, get(t, j, c))));
+    for (uint64_t c = j; c <= t->columns + 1; c++)
+        put(t, k, c, plus(t, get(t, k, c), product(t, copy, get(t, row, c))));
 }
 
-/* it only opens x_j, and the table stays as it is. */
-static uint8_t open_unknown(task *t, uint64_t j)
+/* it only opens the row's unknown, and the table stays as it is. */
+static uint8_t open_unknown(task *t, uint64_t row)
 {
-    return opening(t, get(t, j, t->m + 1));
+    return opening(t, get(t, row, t->columns + 1));
 }
 
 /* carries x_j, as it stands in the solution, into the rows above. */
-static void lift(task *t, uint64_t j, const uint8_t *solution)
+static void lift(task *t, uint64_t row, uint64_t j, const uint8_t *solution)
 {
     uint8_t x = solution[j - 1];
-    for (uint64_t k = 1; k < j; k++)
-        put(t, k, t->m + 1, plus(t, get(t, k, t->m + 1), scaled(t, get(t, k, j), x)));
+    uint64_t b = t->columns + 1;
+    for (uint64_t k = 1; k < row; k++)
+        put(t, k, b, plus(t, get(t, k, b), scaled(t, get(t, k, j), x)));
 }
 
 /* ---- The plain answer, by a basis of columns ----
  *
- * R-1's call eliminates on rows and exchanges them; here no row is ever changed. The
- * columns of A are taken one by one, and what is kept of each is what is left of it
- * once the kept ones before it are taken off. Where nothing is left of a column, the
- * columns before it combine to it; otherwise each kept one is, by its mix, a
- * combination of A's columns, and so is b. */
+ * R-1's call eliminates on rows and exchanges them, and R-8's mixes them; here no row is
+ * ever changed. The columns of A are taken one by one, and what is kept of each is what is
+ * left of it once the kept ones before it are taken off. Where nothing is left of a column,
+ * the columns before it combine to it, and it is not kept; otherwise it is a pivot. Each
+ * kept one is, by its mix, a combination of the pivots, and where there are as many as
+ * rows, so is b. */
 
 typedef struct {
-    uint8_t entry[96]; /* m in use: one for each row */
-    uint8_t mix[96];   /* likewise, one for each column: the entries are those of A·mix (for b: plus b) */
+    uint64_t field, rows, columns;
+} shape;
+
+typedef struct {
+    uint8_t entry[96]; /* one for each row */
+    uint8_t mix[144];  /* one for each column: the entries are those of A·mix (for b: plus b) */
     uint64_t lead;     /* a row where the entry is 1, and 0 in all kept after it */
 } vector;
 
 /* Adds factor times what is kept. Sum and difference are the same. */
-static void add_times(uint64_t field, uint64_t m, vector *to, uint8_t factor, const vector *kept)
+static void add_times(const shape *of, vector *to, uint8_t factor, const vector *kept)
 {
-    for (uint64_t i = 0; i < m; i++) {
-        to->entry[i] ^= model_times(field, factor, kept->entry[i]);
-        to->mix[i] ^= model_times(field, factor, kept->mix[i]);
-    }
+    for (uint64_t i = 0; i < of->rows; i++)
+        to->entry[i] ^= model_times(of->field, factor, kept->entry[i]);
+    for (uint64_t i = 0; i < of->columns; i++)
+        to->mix[i] ^= model_times(of->field, factor, kept->mix[i]);
 }
 
 /* What is left once the first `count` kept ones are taken off. One taken off later
  * is 0 at the leads before it, so what was cleared there stays so. */
-static void take_off(uint64_t field, uint64_t m, vector *from, const vector *kept, uint64_t count)
+static void take_off(const shape *of, vector *from, const vector *kept, uint64_t count)
 {
     for (uint64_t i = 0; i < count; i++)
-        add_times(field, m, from, from->entry[kept[i].lead], &kept[i]);
+        add_times(of, from, from->entry[kept[i].lead], &kept[i]);
 }
 
-/* The last row where something is left, or m. */
-static uint64_t last_left(uint64_t m, const vector *v)
+/* The last row where something is left, or the number of rows. */
+static uint64_t last_left(const shape *of, const vector *v)
 {
-    for (uint64_t row = m; row > 0; row--)
+    for (uint64_t row = of->rows; row > 0; row--)
         if (v->entry[row - 1] != 0)
             return row - 1;
-    return m;
+    return of->rows;
 }
 
-/* Column c, from 0, of the values; column m is b. */
-static vector column_of(uint64_t m, const uint8_t *values, uint64_t c)
+/* Column c, from 0, of the values; the one after A's is b. */
+static vector column_of(const shape *of, const uint8_t *values, uint64_t c)
 {
     vector v = {{0}, {0}, 0};
-    for (uint64_t row = 0; row < m; row++)
-        v.entry[row] = values[row * (m + 1) + c];
+    for (uint64_t row = 0; row < of->rows; row++)
+        v.entry[row] = values[row * (of->columns + 1) + c];
     return v;
 }
 
-/* The first column, from 1, that the columns before it combine to; or 0, with x. */
-static uint64_t by_columns(uint64_t field, uint64_t m, const uint8_t *values, uint8_t *x)
+/* The pivots, from 1 and ascending, and how many there are; where each row has one, also
+ * x, which is 0 outside them. */
+static uint64_t by_columns(const shape *of, const uint8_t *values, uint64_t *pivots, uint8_t *x)
 {
     vector kept[96];
-    for (uint64_t c = 0; c < m; c++) {
-        vector left = column_of(m, values, c);
+    uint64_t found = 0;
+    for (uint64_t c = 0; c < of->columns; c++) {
+        vector left = column_of(of, values, c);
         left.mix[c] = 1;
-        take_off(field, m, &left, kept, c);
-        left.lead = last_left(m, &left);
-        if (left.lead == m)
-            return c + 1;
-        kept[c] = (vector){{0}, {0}, left.lead};
-        add_times(field, m, &kept[c], inverse(field, left.entry[left.lead]), &left);
+        take_off(of, &left, kept, found);
+        left.lead = last_left(of, &left);
+        if (left.lead == of->rows)
+            continue;
+        kept[found] = (vector){{0}, {0}, left.lead};
+        add_times(of, &kept[found], inverse(of->field, left.entry[left.lead]), &left);
+        pivots[found++] = c + 1;
     }
-    vector b = column_of(m, values, m);
-    take_off(field, m, &b, kept, m); /* m independent columns: nothing is left, b + A·mix is 0 */
-    memcpy(x, b.mix, m);
-    return 0;
+    if (found < of->rows)
+        return found;
+    vector b = column_of(of, values, of->columns);
+    take_off(of, &b, kept, found); /* as many independent columns as rows: nothing is left, b + A·mix is 0 */
+    memcpy(x, b.mix, of->columns);
+    return found;
+}
+
+uint64_t model_wide_plain(uint64_t rows, uint64_t columns, const uint8_t *values, uint64_t *pivots, uint8_t *x)
+{
+    return by_columns(&(shape){16, rows, columns}, values, pivots, x);
 }
 
 /* ---- Counts ---- */
 
-uint64_t model_mask_draws(uint64_t field, uint64_t n, uint64_t m, uint64_t step, uint64_t j)
+uint64_t model_mask_draws(uint64_t field, uint64_t n, uint64_t columns, uint64_t step, uint64_t j)
 {
-    uint64_t f = field == 16 ? 2 : 3, pairs = n * (n - 1) / 2, columns = m + 2 - j;
+    uint64_t f = field == 16 ? 2 : 3, pairs = n * (n - 1) / 2, length = columns + 2 - j; /* 01's L */
     uint64_t flag = f * 2 * pairs; /* */
     switch (step) {
     case HZ_MIX:
-        return flag + columns * pairs;
+        return flag + length * pairs;
     case HZ_CHECK:
         return flag + pairs;
     case HZ_SCALE:
-        return (n - 1) * (n - 1) + pairs + n * (n - 1) * columns;
+        return (n - 1) * (n - 1) + pairs + n * (n - 1) * length;
     case HZ_CLEAR:
-        return columns * pairs;
+        return length * pairs;
     case HZ_LIFT:
         return 0; /* */
     default:
@@ -342,19 +362,34 @@ uint64_t model_full_mask_draws(uint64_t field, uint64_t n, uint64_t m)
     return sum;
 }
 
+/* as if row 1 took the pivot of every column, and each row were opened. */
+uint64_t model_wide_mask_draws(uint64_t n, uint64_t rows, uint64_t columns)
+{
+    uint64_t sum = 0;
+    for (uint64_t j = 1; j <= columns; j++) {
+        for (uint64_t k = 2; k <= rows; k++)
+            sum += model_mask_draws(16, n, columns, HZ_MIX, j) + model_mask_draws(16, n, columns, HZ_CLEAR, j);
+        sum += model_mask_draws(16, n, columns, HZ_CHECK, j) + model_mask_draws(16, n, columns, HZ_SCALE, j);
+    }
+    for (uint64_t row = 1; row <= rows; row++)
+        sum += model_mask_draws(16, n, columns, HZ_OPEN, row);
+    return sum;
+}
+
 /* ---- How far along (R-5) ---- */
 
 /* A way along the step list up to a place, and the draws of the steps passed. */
 typedef struct {
-    uint64_t field, n, m;
+    uint64_t field, n, rows, columns;
     uint64_t step, j, k; /* the place */
     uint64_t mask, nonzero;
+    uint64_t found, met; /* pivots that the place has, and that the way came by; a square one keeps none */
 } way;
 
 /* Whether this is the place that the way leads to. */
 static bool is_end(const way *w, uint64_t step, uint64_t j, uint64_t k)
 {
-    return w->step == step && w->j == j && w->k == k;
+    return w->step == step && w->j == j && w->k == k && w->found == w->met;
 }
 
 /* Comes to this step of the list: ends there, with true, or passes it. */
@@ -362,7 +397,7 @@ static bool ends_at(way *w, uint64_t step, uint64_t j, uint64_t k)
 {
     if (is_end(w, step, j, k))
         return true;
-    w->mask += model_mask_draws(w->field, w->n, w->m, step, j);
+    w->mask += model_mask_draws(w->field, w->n, w->columns, step, j);
     w->nonzero += model_nonzero_draws(w->n, step);
     return false;
 }
@@ -371,17 +406,17 @@ static bool ends_at(way *w, uint64_t step, uint64_t j, uint64_t k)
  * column j stands right behind Check(j), and done behind the last step. */
 static bool go_along(way *w)
 {
-    for (uint64_t j = 1; j <= w->m; j++) {
-        for (uint64_t k = j + 1; k <= w->m; k++)
+    for (uint64_t j = 1; j <= w->rows; j++) {
+        for (uint64_t k = j + 1; k <= w->rows; k++)
             if (ends_at(w, HZ_MIX, j, k))
                 return true;
         if (ends_at(w, HZ_CHECK, j, 0) || is_end(w, HZ_AT_STOPPED, j, 0) || ends_at(w, HZ_SCALE, j, 0))
             return true;
-        for (uint64_t k = j + 1; k <= w->m; k++)
+        for (uint64_t k = j + 1; k <= w->rows; k++)
             if (ends_at(w, HZ_CLEAR, j, k))
                 return true;
     }
-    for (uint64_t j = w->m; j >= 1; j--)
+    for (uint64_t j = w->rows; j >= 1; j--)
         if (ends_at(w, HZ_OPEN, j, 0) || (j > 1 && ends_at(w, HZ_LIFT, j, 0)))
             return true;
     return is_end(w, HZ_AT_DONE, 0, 0);
@@ -390,8 +425,52 @@ static bool go_along(way *w)
 bool model_taken(uint64_t field, uint64_t n, uint64_t m, uint64_t step, uint64_t j, uint64_t k, uint64_t *mask,
                  uint64_t *nonzero)
 {
-    way w = {field, n, m, step, j, k, 0, 0};
+    way w = {field, n, m, m, step, j, k, 0, 0, 0, 0};
     bool met = go_along(&w);
+    *mask = w.mask;
+    *nonzero = w.nonzero;
+    return met;
+}
+
+/* The same along R-8's list, with these pivots. A column that is none of them is passed
+ * over. So pivots that are not ascending, too many or outside are never all met. */
+static bool go_along_wide(way *w, const uint64_t *pivots)
+{
+    for (uint64_t j = 1; j <= w->columns && w->met < w->rows; j++) {
+        uint64_t row = w->met + 1;
+        for (uint64_t k = row + 1; k <= w->rows; k++)
+            if (ends_at(w, HZ_MIX, j, k))
+                return true;
+        if (ends_at(w, HZ_CHECK, j, 0))
+            return true;
+        if (w->met == w->found || pivots[w->met] != j)
+            continue;
+        w->met++;
+        if (ends_at(w, HZ_SCALE, j, 0))
+            return true;
+        for (uint64_t k = row + 1; k <= w->rows; k++)
+            if (ends_at(w, HZ_CLEAR, j, k))
+                return true;
+    }
+    if (w->met < w->rows)
+        return is_end(w, HZ_AT_SHORT, 0, 0);
+    for (uint64_t row = w->rows; row >= 1; row--)
+        if (ends_at(w, HZ_OPEN, pivots[row - 1], 0) || (row > 1 && ends_at(w, HZ_LIFT, pivots[row - 1], 0)))
+            return true;
+    return is_end(w, HZ_AT_DONE, 0, 0);
+}
+
+bool model_wide_taken(const uint64_t *record, uint64_t *mask, uint64_t *nonzero)
+{
+    const uint64_t *pivots = record + HZ_WIDE_PIVOTS;
+    way w = {
+        record[HZ_WIDE_FIELD], record[HZ_WIDE_SHARES], record[HZ_WIDE_ROWS], record[HZ_WIDE_COLUMNS],
+        record[HZ_WIDE_STEP],  record[HZ_WIDE_J],      record[HZ_WIDE_K],    0,
+        0,                     record[HZ_WIDE_FOUND],  0,
+    };
+    bool met = go_along_wide(&w, pivots);
+    for (uint64_t slot = w.found; slot < 96; slot++)
+        met = met && pivots[slot] == 0;
     *mask = w.mask;
     *nonzero = w.nonzero;
     return met;
@@ -442,14 +521,31 @@ static uint64_t bad_number(uint64_t field, uint64_t n, uint64_t m, uint64_t *det
     return 0;
 }
 
+/* 1, 2, 3, 21, or 0: R-8 has F16 alone, and looks at the columns last. */
+static uint64_t bad_wide_number(uint64_t field, uint64_t n, uint64_t rows, uint64_t columns, uint64_t *detail)
+{
+    if (field != 16) {
+        *detail = field;
+        return 1;
+    }
+    uint64_t bad = bad_number(field, n, rows, detail);
+    if (bad)
+        return bad;
+    if (columns < rows || columns > 144) {
+        *detail = columns;
+        return 21;
+    }
+    return 0;
+}
+
 /* The cell of the first byte of 16 or more where the field is F16. The walk goes as
  * the bytes lie (01): row after row, in a row column after column, and in an entry
  * share after share, of which there are `depth`; so it knows its cell, and no place
  * has to be divided. */
-static cell first_large(uint64_t field, uint64_t m, uint64_t depth, const uint8_t *bytes)
+static cell first_large(uint64_t field, uint64_t rows, uint64_t columns, uint64_t depth, const uint8_t *bytes)
 {
-    for (uint64_t row = 1; row <= m; row++)
-        for (uint64_t column = 1; column <= m + 1; column++)
+    for (uint64_t row = 1; row <= rows; row++)
+        for (uint64_t column = 1; column <= columns + 1; column++)
             for (uint64_t share = 1; share <= depth; share++)
                 if (*bytes++ >= 16 && field == 16)
                     return (cell){row, column, share};
@@ -459,7 +555,7 @@ static cell first_large(uint64_t field, uint64_t m, uint64_t depth, const uint8_
 /* The same in plain values, a byte to an entry. */
 static cell first_large_value(uint64_t field, uint64_t m, const uint8_t *values)
 {
-    cell at = first_large(field, m, 1, values);
+    cell at = first_large(field, m, m, 1, values);
     at.share = 0;
     return at;
 }
@@ -552,6 +648,103 @@ static void move_on(uint64_t *record)
         break;
     case HZ_LIFT:
         set_place(record, HZ_OPEN, j - 1, 0);
+        break;
+    }
+}
+
+/* ---- The place of a wide record (R-8) ---- */
+
+/* 10, 19, 11, or 0 for none: of a record whose numbers are right. */
+static uint64_t bad_wide_record(const uint64_t *record)
+{
+    uint64_t mask, nonzero;
+    if (!model_wide_taken(record, &mask, &nonzero))
+        return 10;
+    if (record[HZ_WIDE_MASK_TAKEN] != mask || record[HZ_WIDE_NONZERO_TAKEN] != nonzero)
+        return 19;
+    return record[HZ_WIDE_STEP] == HZ_AT_SHORT || record[HZ_WIDE_STEP] == HZ_AT_DONE ? 11 : 0;
+}
+
+/* The row that stands for column j at the record's place: the next one without a pivot
+ * while the column is sought, and then its pivot's own. */
+static uint64_t row_of_place(const uint64_t *record)
+{
+    uint64_t row = 1;
+    if (record[HZ_WIDE_STEP] == HZ_MIX || record[HZ_WIDE_STEP] == HZ_CHECK)
+        return record[HZ_WIDE_FOUND] + 1;
+    while (record[HZ_WIDE_PIVOTS + row - 1] != record[HZ_WIDE_J])
+        row++;
+    return row;
+}
+
+static void set_wide_place(uint64_t *record, uint64_t step, uint64_t j, uint64_t k)
+{
+    record[HZ_WIDE_STEP] = step;
+    record[HZ_WIDE_J] = j;
+    record[HZ_WIDE_K] = k;
+}
+
+/* Column j is to be sought. */
+static void enter_wide_column(uint64_t *record, uint64_t j)
+{
+    uint64_t row = record[HZ_WIDE_FOUND] + 1;
+    if (row < record[HZ_WIDE_ROWS])
+        set_wide_place(record, HZ_MIX, j, row + 1);
+    else
+        set_wide_place(record, HZ_CHECK, j, 0);
+}
+
+/* Column j is passed over, or its pivot's row cleared from those below. */
+static void leave_wide_column(uint64_t *record, uint64_t j)
+{
+    uint64_t found = record[HZ_WIDE_FOUND];
+    if (found == record[HZ_WIDE_ROWS])
+        set_wide_place(record, HZ_OPEN, record[HZ_WIDE_PIVOTS + found - 1], 0);
+    else if (j < record[HZ_WIDE_COLUMNS])
+        enter_wide_column(record, j + 1);
+    else
+        set_wide_place(record, HZ_AT_SHORT, 0, 0);
+}
+
+/* Moves on to the next place of the list. Of a Check it is told what was opened. */
+static void move_wide_on(uint64_t *record, bool passed_over)
+{
+    uint64_t rows = record[HZ_WIDE_ROWS], row = row_of_place(record), j = record[HZ_WIDE_J], k = record[HZ_WIDE_K];
+    switch (record[HZ_WIDE_STEP]) {
+    case HZ_MIX:
+        if (k < rows)
+            set_wide_place(record, HZ_MIX, j, k + 1);
+        else
+            set_wide_place(record, HZ_CHECK, j, 0);
+        break;
+    case HZ_CHECK:
+        if (passed_over) {
+            leave_wide_column(record, j);
+            break;
+        }
+        record[HZ_WIDE_PIVOTS + record[HZ_WIDE_FOUND]++] = j;
+        set_wide_place(record, HZ_SCALE, j, 0);
+        break;
+    case HZ_SCALE:
+        if (row < rows)
+            set_wide_place(record, HZ_CLEAR, j, row + 1);
+        else
+            leave_wide_column(record, j);
+        break;
+    case HZ_CLEAR:
+        if (k < rows)
+            set_wide_place(record, HZ_CLEAR, j, k + 1);
+        else
+            leave_wide_column(record, j);
+        break;
+    case HZ_OPEN:
+        if (row > 1)
+            set_wide_place(record, HZ_LIFT, j, 0);
+        else
+            set_wide_place(record, HZ_AT_DONE, 0, 0);
+        break;
+    case HZ_LIFT:
+        set_wide_place(record, HZ_OPEN, record[HZ_WIDE_PIVOTS + row - 2], 0);
         break;
     }
 }
@@ -705,7 +898,7 @@ uint64_t model_step(uint64_t *record, size_t record_len,
     bad = bad_record(record);
     if (bad)
         return refuse(answer, bad, 0);
-    cell large = first_large(field, m, n, table);
+    cell large = first_large(field, m, m, n, table);
     if (large.row)
         return refuse_cell(answer, 6, large);
     uint64_t mask_wanted = model_mask_draws(field, n, m, step, j), nonzero_wanted = model_nonzero_draws(n, step);
@@ -721,27 +914,27 @@ uint64_t model_step(uint64_t *record, size_t record_len,
     if (step == HZ_LIFT && field == 16 && solution[j - 1] >= 16)
         return refuse(answer, 20, j);
 
-    task t = {field, n, m, table, {mask, 0}, {nonzero, 0}};
+    task t = {field, n, m, m, table, {mask, 0}, {nonzero, 0}};
     bool stops = false;
     switch (step) {
     case HZ_MIX:
-        mix(&t, j, k);
+        mix(&t, j, j, k);
         break;
     case HZ_CHECK:
-        stops = check_stops(&t, j);
+        stops = check(&t, j, j);
         break;
     case HZ_SCALE:
-        if (!scale(&t, j))
+        if (!scale(&t, j, j))
             return refuse_cell(answer, 12, (cell){j, j, 0});
         break;
     case HZ_CLEAR:
-        clear(&t, j, k);
+        clear(&t, j, j, k);
         break;
     case HZ_OPEN:
         solution[j - 1] = open_unknown(&t, j);
         break;
     case HZ_LIFT:
-        lift(&t, j, solution);
+        lift(&t, j, j, solution);
         break;
     }
     record[HZ_MASK_TAKEN] += t.mask.taken;
@@ -763,24 +956,24 @@ uint64_t model_step(uint64_t *record, size_t record_len,
 static uint64_t run_list(task *t, uint8_t *solution, uint64_t *steps)
 {
     *steps = 0;
-    for (uint64_t j = 1; j <= t->m; j++) {
-        for (uint64_t k = j + 1; k <= t->m; k++, ++*steps)
-            mix(t, j, k);
+    for (uint64_t j = 1; j <= t->rows; j++) {
+        for (uint64_t k = j + 1; k <= t->rows; k++, ++*steps)
+            mix(t, j, j, k);
         ++*steps;
-        if (check_stops(t, j))
+        if (check(t, j, j))
             return j;
         ++*steps;
-        scale(t, j); /* its pivot was just seen not to be 0 */
-        for (uint64_t k = j + 1; k <= t->m; k++, ++*steps)
-            clear(t, j, k);
+        scale(t, j, j); /* its pivot was just seen not to be 0 */
+        for (uint64_t k = j + 1; k <= t->rows; k++, ++*steps)
+            clear(t, j, j, k);
     }
-    for (uint64_t j = t->m; j >= 1; j--) {
+    for (uint64_t j = t->rows; j >= 1; j--) {
         ++*steps;
         solution[j - 1] = open_unknown(t, j);
         if (j == 1)
             break; /* there is no Lift(1) */
         ++*steps;
-        lift(t, j, solution);
+        lift(t, j, j, solution);
     }
     return 0;
 }
@@ -801,7 +994,7 @@ uint64_t model_solve(uint64_t field, uint64_t n, uint64_t m,
         return refuse(answer, 4, m * (m + 1) * n);
     if (solution_len != m)
         return refuse(answer, 5, m);
-    cell large = first_large(field, m, n, table);
+    cell large = first_large(field, m, m, n, table);
     if (large.row)
         return refuse_cell(answer, 6, large);
     if (mask_len < model_full_mask_draws(field, n, m))
@@ -812,7 +1005,7 @@ uint64_t model_solve(uint64_t field, uint64_t n, uint64_t m,
     if (zero < m * (n - 1))
         return refuse(answer, 9, zero);
 
-    task t = {field, n, m, table, {mask, 0}, {nonzero, 0}};
+    task t = {field, n, m, m, table, {mask, 0}, {nonzero, 0}};
     uint64_t steps;
     uint64_t column = run_list(&t, solution, &steps);
     if (column == 0)
@@ -839,9 +1032,11 @@ uint64_t model_plain(uint64_t field, uint64_t m,
     if (large.row)
         return refuse_cell(answer, 6, large);
 
-    uint64_t column = by_columns(field, m, values, solution);
-    if (column == 0)
+    uint64_t pivots[96], found = by_columns(&(shape){field, m, m}, values, pivots, solution), column = 1;
+    if (found == m)
         return say(HZ_SOLVED, answer, 0, 0, 0, 0);
+    while (column <= found && pivots[column - 1] == column)
+        column++; /* to the first that is no pivot */
     memset(solution, 0, m);
     return say(HZ_STOPPED, answer, column, 0, 0, 0);
 }
@@ -868,7 +1063,7 @@ uint64_t model_deal(uint64_t field, uint64_t n, uint64_t m,
     if (mask_len < entries * (n - 1))
         return refuse(answer, 7, entries * (n - 1));
 
-    task t = {field, n, m, table, {mask, 0}, {mask, 0}};
+    task t = {field, n, m, m, table, {mask, 0}, {mask, 0}};
     for (uint64_t row = 1; row <= m; row++)
         for (uint64_t column = 1; column <= m + 1; column++) {
             sharing a = {{values[(row - 1) * (m + 1) + (column - 1)]}};
@@ -892,7 +1087,7 @@ uint64_t model_gather(uint64_t field, uint64_t n, uint64_t m,
         return refuse(answer, 4, entries * n);
     if (values_len != entries)
         return refuse(answer, 5, entries);
-    cell large = first_large(field, m, n, table);
+    cell large = first_large(field, m, m, n, table);
     if (large.row)
         return refuse_cell(answer, 6, large);
 
@@ -928,7 +1123,7 @@ uint64_t model_write(uint64_t field, uint64_t n, uint64_t m,
         return refuse(answer, 4, m * (m + 1) * n);
     if (target_len != record_length(table_len))
         return refuse(answer, 5, record_length(table_len));
-    cell large = first_large(field, m, n, table);
+    cell large = first_large(field, m, m, n, table);
     if (large.row)
         return refuse_cell(answer, 6, large);
 
@@ -962,8 +1157,193 @@ uint64_t model_read(const uint8_t *input, size_t input_len,
         return refuse(answer, bad, detail);
     if (found[TABLE].len != m * (m + 1) * n)
         return refuse(answer, 4, m * (m + 1) * n);
-    cell large = first_large(field, m, n, found[TABLE].bytes);
+    cell large = first_large(field, m, m, n, found[TABLE].bytes);
     if (large.row)
         return refuse_cell(answer, 6, large);
     return say(HZ_SYSTEM, answer, field, n, m, found[TABLE].len);
+}
+
+/* ---- The calls for wide systems (R-8) ---- */
+
+uint64_t model_wide_start(uint64_t field, uint64_t n, uint64_t rows, uint64_t columns,
+                          uint64_t *record, size_t record_len,
+                          uint64_t *answer, size_t answer_len)
+{
+    if (record_len != HZ_WIDE_RECORD_WORDS || answer_len != HZ_ANSWER_WORDS)
+        return HZ_BAD_WORDS;
+    uint64_t detail, bad = bad_wide_number(field, n, rows, columns, &detail);
+    if (bad)
+        return refuse(answer, bad, detail);
+    for (size_t word = 0; word < HZ_WIDE_RECORD_WORDS; word++)
+        record[word] = 0;
+    record[HZ_WIDE_FIELD] = field;
+    record[HZ_WIDE_SHARES] = n;
+    record[HZ_WIDE_ROWS] = rows;
+    record[HZ_WIDE_COLUMNS] = columns;
+    enter_wide_column(record, 1);
+    return say(HZ_FRESH, answer, 0, 0, 0, 0);
+}
+
+uint64_t model_wide_counts(uint64_t field, uint64_t n, uint64_t rows, uint64_t columns,
+                           uint64_t *answer, size_t answer_len)
+{
+    if (answer_len != HZ_ANSWER_WORDS)
+        return HZ_BAD_WORDS;
+    uint64_t detail, bad = bad_wide_number(field, n, rows, columns, &detail);
+    if (bad)
+        return refuse(answer, bad, detail);
+    return say(HZ_WANTED, answer, model_wide_mask_draws(n, rows, columns), rows * (n - 1), 0, 0);
+}
+
+uint64_t model_wide_wanted(const uint64_t *record, size_t record_len,
+                           uint64_t *answer, size_t answer_len)
+{
+    if (record_len != HZ_WIDE_RECORD_WORDS || answer_len != HZ_ANSWER_WORDS)
+        return HZ_BAD_WORDS;
+    uint64_t field = record[HZ_WIDE_FIELD], n = record[HZ_WIDE_SHARES], columns = record[HZ_WIDE_COLUMNS];
+    uint64_t step = record[HZ_WIDE_STEP], j = record[HZ_WIDE_J];
+    uint64_t detail, bad = bad_wide_number(field, n, record[HZ_WIDE_ROWS], columns, &detail);
+    if (bad)
+        return refuse(answer, bad, detail);
+    bad = bad_wide_record(record);
+    if (bad)
+        return refuse(answer, bad, 0);
+    return say(HZ_WANTED, answer, model_mask_draws(field, n, columns, step, j), model_nonzero_draws(n, step), 0, 0);
+}
+
+uint64_t model_wide_step(uint64_t *record, size_t record_len,
+                         uint8_t *table, size_t table_len,
+                         uint8_t *solution, size_t solution_len,
+                         const uint8_t *mask, size_t mask_len,
+                         const uint8_t *nonzero, size_t nonzero_len,
+                         uint64_t *answer, size_t answer_len)
+{
+    if (record_len != HZ_WIDE_RECORD_WORDS || answer_len != HZ_ANSWER_WORDS)
+        return HZ_BAD_WORDS;
+    uint64_t field = record[HZ_WIDE_FIELD], n = record[HZ_WIDE_SHARES];
+    uint64_t rows = record[HZ_WIDE_ROWS], columns = record[HZ_WIDE_COLUMNS];
+    uint64_t step = record[HZ_WIDE_STEP], j = record[HZ_WIDE_J], k = record[HZ_WIDE_K];
+    uint64_t detail, bad = bad_wide_number(field, n, rows, columns, &detail);
+    if (bad)
+        return refuse(answer, bad, detail);
+    if (table_len != rows * (columns + 1) * n)
+        return refuse(answer, 4, rows * (columns + 1) * n);
+    if (solution_len != columns)
+        return refuse(answer, 5, columns);
+    bad = bad_wide_record(record);
+    if (bad)
+        return refuse(answer, bad, 0);
+    cell large = first_large(field, rows, columns, n, table);
+    if (large.row)
+        return refuse_cell(answer, 6, large);
+    uint64_t mask_wanted = model_mask_draws(field, n, columns, step, j), nonzero_wanted = model_nonzero_draws(n, step);
+    bad = bad_tape(mask_len, mask_wanted, 7, 14);
+    if (bad)
+        return refuse(answer, bad, mask_wanted);
+    bad = bad_tape(nonzero_len, nonzero_wanted, 8, 15);
+    if (bad)
+        return refuse(answer, bad, nonzero_wanted);
+    size_t zero = first_zero_draw(field, nonzero, nonzero_len);
+    if (zero < nonzero_len)
+        return refuse(answer, 9, zero);
+    if (step == HZ_LIFT && solution[j - 1] >= 16)
+        return refuse(answer, 20, j);
+
+    task t = {field, n, rows, columns, table, {mask, 0}, {nonzero, 0}};
+    uint64_t row = row_of_place(record);
+    bool passed_over = false;
+    switch (step) {
+    case HZ_MIX:
+        mix(&t, row, j, k);
+        break;
+    case HZ_CHECK:
+        passed_over = check(&t, row, j);
+        break;
+    case HZ_SCALE:
+        if (!scale(&t, row, j))
+            return refuse_cell(answer, 12, (cell){row, j, 0});
+        break;
+    case HZ_CLEAR:
+        clear(&t, row, j, k);
+        break;
+    case HZ_OPEN:
+        solution[j - 1] = open_unknown(&t, row);
+        break;
+    case HZ_LIFT:
+        lift(&t, row, j, solution);
+        break;
+    }
+    record[HZ_WIDE_MASK_TAKEN] += t.mask.taken;
+    record[HZ_WIDE_NONZERO_TAKEN] += t.nonzero.taken;
+    move_wide_on(record, passed_over);
+    if (step == HZ_OPEN)
+        return say(row == 1 ? HZ_DONE : HZ_OPENED, answer, j, solution[j - 1], 0, 0);
+    return say(record[HZ_WIDE_STEP] == HZ_AT_SHORT ? HZ_SHORT : HZ_MOVED, answer, 0, 0, 0, 0);
+}
+
+/* Runs a wide list on a task without its refusals, and leaves the solution. True where
+ * each row has a pivot; *steps is the number of steps taken. */
+static bool run_wide_list(task *t, uint8_t *solution, uint64_t *steps)
+{
+    uint64_t pivots[96], row = 1;
+    *steps = 0;
+    memset(solution, 0, t->columns);
+    for (uint64_t j = 1; j <= t->columns && row <= t->rows; j++) {
+        for (uint64_t k = row + 1; k <= t->rows; k++, ++*steps)
+            mix(t, row, j, k);
+        ++*steps;
+        if (check(t, row, j))
+            continue;
+        ++*steps;
+        scale(t, row, j); /* its pivot was just seen not to be 0 */
+        for (uint64_t k = row + 1; k <= t->rows; k++, ++*steps)
+            clear(t, row, j, k);
+        pivots[row - 1] = j;
+        row++;
+    }
+    if (row <= t->rows)
+        return false;
+    for (row = t->rows; row >= 1; row--) {
+        uint64_t j = pivots[row - 1];
+        ++*steps;
+        solution[j - 1] = open_unknown(t, row);
+        if (row == 1)
+            break; /* the first pivot has no Lift */
+        ++*steps;
+        lift(t, row, j, solution);
+    }
+    return true;
+}
+
+uint64_t model_wide_solve(uint64_t field, uint64_t n, uint64_t rows, uint64_t columns,
+                          uint8_t *table, size_t table_len,
+                          uint8_t *solution, size_t solution_len,
+                          const uint8_t *mask, size_t mask_len,
+                          const uint8_t *nonzero, size_t nonzero_len,
+                          uint64_t *answer, size_t answer_len)
+{
+    if (answer_len != HZ_ANSWER_WORDS)
+        return HZ_BAD_WORDS;
+    uint64_t detail, bad = bad_wide_number(field, n, rows, columns, &detail);
+    if (bad)
+        return refuse(answer, bad, detail);
+    if (table_len != rows * (columns + 1) * n)
+        return refuse(answer, 4, rows * (columns + 1) * n);
+    if (solution_len != columns)
+        return refuse(answer, 5, columns);
+    cell large = first_large(field, rows, columns, n, table);
+    if (large.row)
+        return refuse_cell(answer, 6, large);
+    if (mask_len < model_wide_mask_draws(n, rows, columns))
+        return refuse(answer, 7, model_wide_mask_draws(n, rows, columns));
+    if (nonzero_len < rows * (n - 1))
+        return refuse(answer, 8, rows * (n - 1));
+    size_t zero = first_zero_draw(field, nonzero, rows * (n - 1));
+    if (zero < rows * (n - 1))
+        return refuse(answer, 9, zero);
+
+    task t = {field, n, rows, columns, table, {mask, 0}, {nonzero, 0}};
+    uint64_t steps;
+    bool solved = run_wide_list(&t, solution, &steps);
+    return say(solved ? HZ_SOLVED : HZ_SHORT, answer, steps, t.mask.taken, t.nonzero.taken, 0);
 }

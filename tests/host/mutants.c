@@ -138,11 +138,12 @@
  *     20 before 9              20 is told of Scale's byte, where it is 9's turn
  *     old list CALL            hz_counts or hz_solve tells the steps without those of Lift
  *
- * Linked with --wrap for every call. */
+ * Those for wide systems are in wide_mutants.h. Linked with --wrap for every call. */
 #include "hostozaro.h"
 #include "model.h"
 
 #include <stdbool.h>
+#include <stdio.h>
 #include <stdlib.h>
 #include <string.h>
 
@@ -1114,3 +1115,5 @@ uint64_t __wrap_hz_read(const uint8_t *input, size_t input_len, uint64_t *answer
         ((uint8_t *)input)[input_len - 1] ^= 1;
     return code;
 }
+
+#include "wide_mutants.h"

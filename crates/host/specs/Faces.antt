@@ -13,9 +13,13 @@ use Rattle.verdict.specs.Calls.{Says, refuses, gives, Outcome, Nothing}
 use Rattle.solver.specs.Calls.{Stride, Lent, startCall, countsCall, dealCall, gatherCall, solveCall, stepCall, wantedCall}
 use Rattle.plain.specs.Calls.{plainCall}
 use Rattle.exchange.specs.Calls.{writeCall, readCall}
+use Rattle.pattern.specs.declared.WideOrder.{WideOrder}
+use Rattle.pattern.specs.declared.WideProgress.{WideProgress}
+use Rattle.wide.specs.WideCalls as Wide
 use Rattle.host.specs.declared.replies.Reply.{Reply}
 use Rattle.host.specs.Words.{progressOf, wordsOf, kept}
-use Rattle.host.specs.Replies.{fourOf, said, freshReply, countsReply, fullReply, endingReply, strideReply, wantedReply, plainReply, writtenReply, systemReply}
+use Rattle.host.specs.WideWords.{wideOf, wideKept}
+use Rattle.host.specs.Replies.{fourOf, said, freshReply, countsReply, fullReply, endingReply, strideReply, wantedReply, plainReply, writtenReply, systemReply, begunReply, wideStrideReply, wideEndingReply}
 
 -- a call that came back: its code, what it was lent as it stands afterwards, and the answer's words
 pub record Back (L : Type 0) : Type 0 where
@@ -41,8 +45,8 @@ worded right found answer does = pick right does (back 99 found answer)
 abbrev pub four : ℕ → Bool
 four answer = eqb answer 4
 
-unfoldable pub eightFour : ℕ → ℕ → Bool
-eightFour words answer = eqb words 8 && four answer
+unfoldable pub wordsRight : ℕ → ℕ → ℕ → Bool
+wordsRight right words answer = eqb words right && four answer
 
 -- ---- Start: the record is written where it is fresh
 
@@ -51,7 +55,7 @@ startHanded w (refuses l) = replied (said freshReply (refuses l)) w
 startHanded w (gives p) = replied (said freshReply (gives p)) (wordsOf p)
 
 unfoldable pub hzStart : Order → List ℕ → List ℕ → Back (List ℕ)
-hzStart o w answer = worded (eightFour (length w) (length answer)) w answer (startHanded w (startCall o .says))
+hzStart o w answer = worded (wordsRight 8 (length w) (length answer)) w answer (startHanded w (startCall o .says))
 
 -- ---- Step: the record's words, beside the table and the solution
 
@@ -69,12 +73,12 @@ stepHanded w o =
 
 unfoldable pub hzStep : List ℕ → Held → List ℕ → List ℕ → List ℕ → Back Recorded
 hzStep w h mask nonzero answer =
-    worded (eightFour (length w) (length answer)) (recorded w h) answer (stepHanded w (stepCall (progressOf w) h mask nonzero))
+    worded (wordsRight 8 (length w) (length answer)) (recorded w h) answer (stepHanded w (stepCall (progressOf w) h mask nonzero))
 
 -- ---- Wanted: the record's words are read, and only read
 
 unfoldable pub hzWanted : List ℕ → List ℕ → Back Nothing
-hzWanted w answer = worded (eightFour (length w) (length answer)) tt answer (handed wantedReply (wantedCall (progressOf w)))
+hzWanted w answer = worded (wordsRight 8 (length w) (length answer)) tt answer (handed wantedReply (wantedCall (progressOf w)))
 
 -- ---- Solve, Deal, Gather, and the counts
 
@@ -103,3 +107,34 @@ hzWrite f n m table target answer =
 
 unfoldable pub hzRead : List ℕ → List ℕ → Back Nothing
 hzRead input answer = worded (four (length answer)) tt answer (handed systemReply (readCall input))
+
+-- ---- the wide calls. Start and Step leave the record's words as found on a refusal
+
+unfoldable pub beginHanded : List ℕ → Outcome Wide.Begun WideProgress → Back (List ℕ)
+beginHanded w o =
+    let r = said begunReply (o .says) in
+    replied r (wideKept (r .code) w (o .left))
+
+unfoldable pub hzWideStart : WideOrder → List ℕ → List ℕ → Back (List ℕ)
+hzWideStart o w answer = worded (wordsRight 106 (length w) (length answer)) w answer (beginHanded w (Wide.startCall o))
+
+unfoldable pub wideStepHanded : List ℕ → Outcome Wide.Stride Wide.Lent → Back Recorded
+wideStepHanded w o =
+    let r = said wideStrideReply (o .says) in
+    replied r (recorded (wideKept (r .code) w (o .left .progress)) (o .left .held))
+
+unfoldable pub hzWideStep : List ℕ → Held → List ℕ → List ℕ → List ℕ → Back Recorded
+hzWideStep w h mask nonzero answer =
+    worded (wordsRight 106 (length w) (length answer)) (recorded w h) answer
+    (wideStepHanded w (Wide.stepCall (wideOf w) h mask nonzero))
+
+unfoldable pub hzWideWanted : List ℕ → List ℕ → Back Nothing
+hzWideWanted w answer =
+    worded (wordsRight 106 (length w) (length answer)) tt answer (handed wantedReply (Wide.wantedCall (wideOf w)))
+
+unfoldable pub hzWideCounts : WideOrder → List ℕ → Back Nothing
+hzWideCounts o answer = worded (four (length answer)) tt answer (handed wantedReply (Wide.countsCall o))
+
+unfoldable pub hzWideSolve : WideOrder → Held → List ℕ → List ℕ → List ℕ → Back Held
+hzWideSolve o h mask nonzero answer =
+    worded (four (length answer)) h answer (handed wideEndingReply (Wide.solveCall o h mask nonzero))

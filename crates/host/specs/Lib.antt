@@ -1,3 +1,4 @@
 pub mod Words
+pub mod WideWords
 pub mod Replies
 pub mod Faces

@@ -14,6 +14,10 @@ use Rattle.solver.specs.Calls as Calls
 use Rattle.solver.specs.Calls.{Full, filled, Stride, moved, found, done}
 use Rattle.algebra.specs.Linear.{Answer, solved, stopped}
 use Rattle.exchange.specs.declared.System.{System}
+use Rattle.wide_walk.specs.declared.WideEnding.{WideEnding}
+use Rattle.wide_walk.specs.declared.WideEnding.the-variants as Wide
+use Rattle.wide.specs.WideCalls as WideCalls
+use Rattle.wide.specs.WideCalls.{Begun, short}
 use Rattle.host.specs.declared.replies.Reply.{Reply}
 
 abbrev pub reply : ℕ → ℕ → ℕ → ℕ → ℕ → Reply
@@ -67,6 +71,20 @@ countsReply c = reply 8 (c .steps) (c .mask) (c .nonzero) 0
 -- Wanted
 unfoldable pub wantedReply : Draws → Reply
 wantedReply d = reply 9 (d .mask) (d .nonzero) 0 0
+
+-- the wide calls: a fresh record, a step, the whole solve
+unfoldable pub begunReply : Begun → Reply
+begunReply b = reply 7 0 0 0 0
+
+unfoldable pub wideStrideReply : WideCalls.Stride → Reply
+wideStrideReply WideCalls.moved = reply 1 0 0 0 0
+wideStrideReply (WideCalls.found j x) = reply 2 j x 0 0
+wideStrideReply short = reply 11 0 0 0 0
+wideStrideReply (WideCalls.done j x) = reply 4 j x 0 0
+
+unfoldable pub wideEndingReply : WideEnding → Reply
+wideEndingReply (Wide.Solved c) = reply 5 (c .steps) (c .mask) (c .nonzero) 0
+wideEndingReply (Wide.Short c) = reply 11 (c .steps) (c .mask) (c .nonzero) 0
 
 unfoldable pub said : {A : Type 0} → (A → Reply) → Says A → Reply
 said f (refuses l) = refusalReply l

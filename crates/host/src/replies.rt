@@ -5,7 +5,8 @@ ghost use Rattle.verdict.specs.Refusals.{paper};
 ghost use Rattle.solver.specs.Calls.{countSays, fillSays, solveSays, stepSays, wantSays};
 ghost use Rattle.plain.specs.Calls.{plainSays};
 ghost use Rattle.exchange.specs.Calls.{writeSays, readSays};
-ghost use Rattle.host.specs.Replies.{reply, refusalReply, said, countsReply, fullReply, endingReply, strideReply, wantedReply, plainReply, writtenReply, systemReply, fourOf};
+ghost use Rattle.wide.specs.WideCalls as Wide;
+ghost use Rattle.host.specs.Replies.{reply, refusalReply, said, countsReply, fullReply, endingReply, strideReply, wantedReply, plainReply, writtenReply, systemReply, begunReply, wideStrideReply, wideEndingReply, fourOf};
 use exchange::Reading;
 use exchange::Writing;
 use solver::Counting;
@@ -14,6 +15,10 @@ use solver::Solving;
 use solver::Stepping;
 use solver::Wanting;
 use verdict::Refusal;
+use wide::WideCounting;
+use wide::WideSolving;
+use wide::WideStarting;
+use wide::WideStepping;
 
 pub struct Reply {
     pub code: u64,
@@ -148,6 +153,58 @@ pub fn of_step(x: Stepping) -> Reply
         Stepping::Opened(j, v) => short(2, j, v as u64),
         Stepping::Stopped(j) => short(3, j, 0),
         Stepping::Done(v) => short(4, v as u64, 0),
+    }
+}
+
+pub fn of_wide_start(x: WideStarting) -> Reply
+    ensures { λ r. ⌜ r ≡ said begunReply (Wide.startSays x) ⌝ }
+{
+    match x {
+        WideStarting::Refused(y) => refusal(y),
+        WideStarting::Fresh => short(7, 0, 0),
+    }
+}
+
+pub fn of_wide_wanted(x: WideCounting) -> Reply
+    ensures { λ r. ⌜ r ≡ said wantedReply (Wide.countSays x) ⌝ }
+{
+    match x {
+        WideCounting::Refused(y) => refusal(y),
+        WideCounting::Wanted(mask, nonzero) => short(9, mask as u64, nonzero as u64),
+    }
+}
+
+pub fn of_wide_solve(x: WideSolving) -> Reply
+    ensures { λ r. ⌜ r ≡ said wideEndingReply (Wide.solveSays x) ⌝ }
+{
+    match x {
+        WideSolving::Refused(y) => refusal(y),
+        WideSolving::Solved(c) => Reply {
+            code: 5,
+            a: c.steps as u64,
+            b: c.mask as u64,
+            c: c.nonzero as u64,
+            d: 0,
+        },
+        WideSolving::Short(c) => Reply {
+            code: 11,
+            a: c.steps as u64,
+            b: c.mask as u64,
+            c: c.nonzero as u64,
+            d: 0,
+        },
+    }
+}
+
+pub fn of_wide_step(x: WideStepping) -> Reply
+    ensures { λ r. ⌜ r ≡ said wideStrideReply (Wide.stepSays x) ⌝ }
+{
+    match x {
+        WideStepping::Refused(y) => refusal(y),
+        WideStepping::Moved => short(1, 0, 0),
+        WideStepping::Opened(j, v) => short(2, j, v as u64),
+        WideStepping::Short => short(11, 0, 0),
+        WideStepping::Done(j, v) => short(4, j, v as u64),
     }
 }
 

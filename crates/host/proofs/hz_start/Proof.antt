@@ -5,14 +5,14 @@ use borrow.Author.Tests.{eqb-true, not-false}
 use mathlib.Core.Path.{ap}
 use Rattle.solver.specs.Calls.{startSays}
 use Rattle.host.specs.Faces.{hzStart}
-use Rattle.host.proofs.Faces.{words-wrong, words-right, not-eight, not-four, eight-and-four, hands-fresh, hands-no-record}
+use Rattle.host.proofs.Faces.{words-wrong, words-right, not-words, not-four, words-and-four, hands-fresh, hands-no-record}
 use borrow.Author.Needs.{needs}
 use Rattle.host.proofs.hz_start.Statement.{statement}
 use Rattle.host.proofs.hz_start.Tie as tie
 
 returns : tie.Need-returns
 unfolding hzStart
-returns c = words-wrong _ _ _ _ (⊎-elim (λ w. not-eight _ _ (w .taken)) (λ w. not-four _ _ (w .0 .left) (w .1 .taken)) (c .if1 .came))
+returns c = words-wrong _ _ _ _ (⊎-elim (λ w. not-words _ _ _ (w .taken)) (λ w. not-four _ _ _ (w .0 .left) (w .1 .taken)) (c .if1 .came))
 
 start-requires : tie.Need-start-requires
 start-requires c κs = search needs
@@ -45,7 +45,7 @@ returns-2 : tie.Need-returns-2
 unfolding hzStart
 returns-2 c =
     let began = c .before .before .before .before .before .before .before .before in
-    words-right _ _ _ _ _ (eight-and-four _ _ (began .before .before .if1 .left) (began .before .if2 .left))
+    words-right _ _ _ _ _ (words-and-four _ _ _ (began .before .before .if1 .left) (began .before .if2 .left))
     (hands-no-record _ _ _ (c .before .before .say .ensures) _ _ _ _ (began .start .ensures) (ap startSays (c .before .before .before .before .before .before .r .given .1)) (c .before .before .before .refusal .ensures))
 
 same-length-2 : tie.Need-same-length-2
@@ -58,7 +58,7 @@ returns-3 : tie.Need-returns-3
 unfolding hzStart
 returns-3 c =
     let began = c .before .before .before .before .before .before .before .before .before .before .before .before in
-    words-right _ _ _ _ _ (eight-and-four _ _ (began .before .before .if1 .left) (began .before .if2 .left))
+    words-right _ _ _ _ _ (words-and-four _ _ _ (began .before .before .if1 .left) (began .before .if2 .left))
     (hands-fresh _ _ _ (c .before .before .say2 .ensures) _ _ _ _ _ (began .start .ensures) (ap startSays (c .before .before .before .before .before .before .before .before .before .before .p .given .1)) (c .before .before .before .short .ensures) (c .before .before .before .before .before .before .before .write .ensures))
 
 pub hz-start-spec : {M : Type 1} → statement M

@@ -3,14 +3,14 @@
 use mathlib.Core.Logic.{⊎-elim}
 use borrow.Author.Tests.{eqb-true, not-false}
 use Rattle.host.specs.Faces.{hzStep}
-use Rattle.host.proofs.Faces.{words-wrong, words-right, not-eight, not-four, eight-and-four, hands-step}
+use Rattle.host.proofs.Faces.{words-wrong, words-right, not-words, not-four, words-and-four, hands-step}
 use borrow.Author.Needs.{needs}
 use Rattle.host.proofs.hz_step.Statement.{statement}
 use Rattle.host.proofs.hz_step.Tie as tie
 
 returns : tie.Need-returns
 unfolding hzStep
-returns c = words-wrong _ _ _ _ (⊎-elim (λ w. not-eight _ _ (w .taken)) (λ w. not-four _ _ (w .0 .left) (w .1 .taken)) (c .if1 .came))
+returns c = words-wrong _ _ _ _ (⊎-elim (λ w. not-words _ _ _ (w .taken)) (λ w. not-four _ _ _ (w .0 .left) (w .1 .taken)) (c .if1 .came))
 
 read-requires : tie.Need-read-requires
 read-requires c κs = search needs
@@ -46,7 +46,7 @@ returns-2 c =
     let telling = keeping .before .before in
     let stepping = telling .before .before .before .before .before .before in
     let reading = stepping .before .before .before in
-    words-right _ _ _ _ _ (eight-and-four _ _ (reading .before .before .before .if1 .left) (reading .before .before .if2 .left))
+    words-right _ _ _ _ _ (words-and-four _ _ _ (reading .before .before .before .if1 .left) (reading .before .before .if2 .left))
     (hands-step _ _ _ (c .before .before .say .ensures) _ _ _ _ _ _
     (rw (reading .read .ensures) at (stepping .step .ensures))
     (telling .of-step .ensures)

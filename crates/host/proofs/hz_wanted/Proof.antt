@@ -3,14 +3,14 @@
 use mathlib.Core.Logic.{⊎-elim}
 use borrow.Author.Tests.{eqb-true, not-false}
 use Rattle.host.specs.Faces.{hzWanted}
-use Rattle.host.proofs.Faces.{words-wrong, words-right, not-eight, not-four, eight-and-four, hands}
+use Rattle.host.proofs.Faces.{words-wrong, words-right, not-words, not-four, words-and-four, hands}
 use borrow.Author.Needs.{needs}
 use Rattle.host.proofs.hz_wanted.Statement.{statement}
 use Rattle.host.proofs.hz_wanted.Tie as tie
 
 returns : tie.Need-returns
 unfolding hzWanted
-returns c = words-wrong _ _ _ _ (⊎-elim (λ w. not-eight _ _ (w .taken)) (λ w. not-four _ _ (w .0 .left) (w .1 .taken)) (c .if1 .came))
+returns c = words-wrong _ _ _ _ (⊎-elim (λ w. not-words _ _ _ (w .taken)) (λ w. not-four _ _ _ (w .0 .left) (w .1 .taken)) (c .if1 .came))
 
 read-requires : tie.Need-read-requires
 read-requires c κs = search needs
@@ -31,7 +31,7 @@ returns-2 : tie.Need-returns-2
 unfolding hzWanted
 returns-2 c =
     let wanting = c .before .before .before .before .before in
-    words-right _ _ _ _ _ (eight-and-four _ _ (wanting .before .before .before .if1 .left) (wanting .before .before .if2 .left))
+    words-right _ _ _ _ _ (words-and-four _ _ _ (wanting .before .before .before .if1 .left) (wanting .before .before .if2 .left))
     (hands _ _ _ (c .before .before .say .ensures) _ _ _ _ (rw (wanting .before .read .ensures) at (wanting .wanted .ensures)) (c .before .before .before .of-wanted .ensures))
 
 pub hz-wanted-spec : {M : Type 1} → statement M
