@@ -23,7 +23,8 @@ use Rattle.pattern.specs.declared.WidePlace.the-variants.{At}
 use Rattle.pattern.specs.declared.WideProgress.{WideProgress}
 use Rattle.pattern.specs.Pivots.{last, ascends, zeros, listed, unused, with}
 use Rattle.pattern.specs.PatternList.{Sizes, maskCost, nonzeroCost, stepsBefore, takenAt, wanted}
-use Rattle.pattern.specs.Next.{Earlier, Roomy, foundBy, startOf, movedOn, kept, stands, placed, counted}
+use Rattle.pattern.specs.Code.Asked.{Earlier, Roomy}
+use Rattle.pattern.specs.Next.{foundBy, startOf, movedOn, kept, stands, placed, counted}
 use Rattle.pattern.proofs.Slots as S
 use Rattle.pattern.proofs.Standing.{Kept, kept-says, kept-so, Stood, stands-says, stands-so, foundAfter, next-stood, after-rises, after-stood}
 use Rattle.pattern.proofs.Before.{none-first, added}

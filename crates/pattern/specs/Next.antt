@@ -2,7 +2,7 @@
 -- Assumes nothing.
 use mathlib.Core.Bool.{Bool, _&&_}
 use mathlib.Core.List.{List, []}
-use Prim.Native.Nat.{ℕ, _+_, _-_, _≤_, _<_}
+use Prim.Native.Nat.{ℕ, _+_, _-_}
 use lib.Dec.{ltb, leb, eqb}
 use lib.ListN.{length, getD, replicate}
 use Rattle.field.specs.Field.{pick}
@@ -41,23 +41,6 @@ foundBy (Scale j) x v = v
 foundBy (Clear j k) x v = v
 foundBy (Open j) x v = v
 foundBy (Lift j) x v = v
-
--- what the code asks for these: before a Lift's column there is a pivot, and for a Check's there is a slot
-abbrev pub Earlier : List ℕ → Step → Type 0
-Earlier ps (Mix j k) = Unit
-Earlier ps (Check j) = Unit
-Earlier ps (Scale j) = Unit
-Earlier ps (Clear j k) = Unit
-Earlier ps (Open j) = Unit
-Earlier ps (Lift j) = 1 ≤ before ps j
-
-abbrev pub Roomy : Step → Pivots → Type 0
-Roomy (Mix j k) v = Unit
-Roomy (Check j) v = (v .found < mostRows) × (j ≤ 255)
-Roomy (Scale j) v = Unit
-Roomy (Clear j k) v = Unit
-Roomy (Open j) v = Unit
-Roomy (Lift j) v = Unit
 
 -- a fresh record: no pivot is found, and nothing is taken
 unfoldable pub startOf : WideOrder → WideProgress

@@ -108,7 +108,7 @@ stepSays Step.Short = gives short
 stepSays (Step.Done j x) = gives (done j x)
 stepSays (Step.Refused r) = refuses (paper r)
 
--- what a step tells that opened x and came to the next place: a passed-over Check moved
+-- what a step tells that opened x and came to the next place; a Check that passes its column over has moved, or ended short
 abbrev pub tellsAt : WidePlace → ℕ → ℕ → Stride
 tellsAt (P.At s) j x = found j x
 tellsAt P.Short j x = found j x
