@@ -150,16 +150,17 @@ static void say_refused_record(void)
 
 void say_refused(void)
 {
-    if (reading)
+    static const char *const names[] = {"FIELD", "SHARES", "SIZE"};
+    const char *const words[] = {field_typed, shares_typed, size_typed};
+    uint64_t why = answer[0];
+    if (reading) {
         say_refused_record();
-    else if (answer[0] == 1)
-        say_word("FIELD", field_typed);
-    else if (answer[0] == 2)
-        say_word("SHARES", shares_typed);
-    else if (answer[0] == 3)
-        say_word("SIZE", size_typed);
-    else
+    } else if (why >= 1 && why <= 3) {
+        say_word(names[why - 1], words[why - 1]);
+        say_may_be();
+    } else {
         say_never();
+    }
 }
 
 /* ---- Reading a typed table ---- */

@@ -98,7 +98,6 @@ void say_word(const char *which, const char *word)
         fprintf(stderr, "%s is '%s', which is no number written in digits alone", which, as_typed);
     else
         fprintf(stderr, "%s is %s", which, as_typed);
-    say_may_be();
 }
 
 void say_cell(uint64_t at_row, uint64_t at_column, uint64_t at_share)

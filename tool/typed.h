@@ -35,7 +35,7 @@ uint64_t number_typed(const char *word);
 /* What the number of refusal 1, 2 or 3 may be. */
 void say_may_be(void);
 
-/* What such a word holds, and what it may be. */
+/* What such a word holds. */
 void say_word(const char *which, const char *word);
 
 /* Share 0 is no single share. */

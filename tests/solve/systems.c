@@ -4,7 +4,9 @@
  *
  * prints 'FIELD SHARES FILE' for each. FILE.wanted holds what ./solve must print of
  * it and FILE.plain what ./solve --plain must, each worked out by the model's call of
- * tests/host that is like the library's. */
+ * tests/host that is like the library's.
+ * Of wide systems it prints 'FIELD SHARES FILE ROWS'. These are made from their pivots
+ * and x on, so that FILE.wanted is known with no elimination. There is no FILE.plain. */
 #include "hostozaro.h"
 #include "model.h"
 
@@ -13,8 +15,8 @@
 #include <stdlib.h>
 #include <string.h>
 
-static uint64_t state, field, n, m;
-static uint8_t values[96 * 97];
+static uint64_t state, field, n, rows, m; /* m unknowns; a square system has as many rows */
+static uint8_t values[96 * 145];
 
 static uint64_t below(uint64_t bound)
 {
@@ -65,28 +67,34 @@ static void write_typed(FILE *to)
     const char *end = below(3) == 0 ? "\r\n" : "\n";
     int last_end = below(3) != 0;
     if (below(2) == 0)
-        fprintf(to, "# %" PRIu64 " equations%s%s", m, end, end);
-    for (uint64_t r = 0; r < m; r++) {
+        fprintf(to, "# %" PRIu64 " equations%s%s", rows, end, end);
+    for (uint64_t r = 0; r < rows; r++) {
         for (uint64_t c = 0; c <= m; c++) {
             fputs(c == 0 && below(8) != 0 ? "" : gaps[below(4)], to);
             fprintf(to, forms[below(5)], *value(r, c));
         }
         if (below(6) == 0)
             fprintf(to, "%s# row %" PRIu64 ", and 1 2 3", below(2) == 0 ? "" : " ", r + 1);
-        if (r + 1 < m || last_end)
+        if (r + 1 < rows || last_end)
             fputs(end, to);
-        if (r + 1 < m && below(8) == 0)
+        if (r + 1 < rows && below(8) == 0)
             fputs(end, to);
     }
+}
+
+static void write_x(FILE *to, const uint8_t *x)
+{
+    for (uint64_t c = 0; c < m; c++)
+        fprintf(to, "%s%d", c == 0 ? "x = " : ", ", x[c]);
+    fprintf(to, "\n");
 }
 
 /* The lines that tell the answer: column `stops`, or x where it is 0. */
 static void write_answer(FILE *to, uint64_t stops, const uint8_t *x)
 {
     if (stops == 0) {
-        for (uint64_t c = 0; c < m; c++)
-            fprintf(to, "%s%d", c == 0 ? "x = " : ", ", x[c]);
-        fprintf(to, "\nchecked: A x = b for the numbers as typed\n");
+        write_x(to, x);
+        fprintf(to, "checked: A x = b for the numbers as typed\n");
     } else {
         fprintf(to, "stopped at column %" PRIu64 ": it is %s, so there is not exactly one x, whatever b is\n", stops,
                 stops == 1 ? "zero" : "a combination of the columns before it");
@@ -118,6 +126,105 @@ static void write_plain(FILE *to)
     fprintf(to, "plain: worked out in the open, nothing was masked\n");
 }
 
+/* ---- Wide systems ---- */
+
+static uint64_t found, pivots[96]; /* from 1, as ./solve prints them */
+static uint8_t wide_x[144];
+
+enum { FIRST_COLUMNS, SOME_PASSED, LAST_COLUMNS, SHORT, ALL_ZERO, WIDE_KINDS };
+
+/* Where columns are passed over, each of those left is a pivot with the chance that just
+ * fills the pivots that are left. */
+static void pick_pivots(int kind)
+{
+    uint64_t wanted = kind == ALL_ZERO ? 0 : kind == SHORT ? below(rows) : rows;
+    found = 0;
+    for (uint64_t c = kind == LAST_COLUMNS ? m - rows : 0; found < wanted; c++)
+        if (kind == FIRST_COLUMNS || below(m - c) < wanted - found)
+            pivots[found++] = c + 1;
+}
+
+/* Adds factor times row s to row r. Pivots and solutions stay the same by it. */
+static void add_row(uint64_t r, uint64_t s, uint8_t factor)
+{
+    for (uint64_t c = 0; c <= m; c++)
+        *value(r, c) ^= model_times(16, factor, *value(s, c));
+}
+
+static uint8_t row_times_x(uint64_t r)
+{
+    uint8_t sum = 0;
+    for (uint64_t c = 0; c < m; c++)
+        sum ^= model_times(16, *value(r, c), wide_x[c]);
+    return sum;
+}
+
+/* Begins with the echelon form: before its pivot, which is not 0, a row has zeros, and so
+ * have the rows below the last pivot all along. Where each row has a pivot, b is the
+ * product of A and x. Then the rows are added to one another, and hide all that. */
+static void make_wide(int kind)
+{
+    pick_pivots(kind);
+    memset(values, 0, sizeof values);
+    memset(wide_x, 0, sizeof wide_x);
+    for (uint64_t r = 0; r < found; r++) {
+        wide_x[pivots[r] - 1] = (uint8_t)below(16);
+        *value(r, pivots[r] - 1) = (uint8_t)(1 + below(15));
+        for (uint64_t c = pivots[r]; c < m; c++)
+            *value(r, c) = (uint8_t)below(16);
+    }
+    for (uint64_t r = 0; r < rows; r++)
+        *value(r, m) = found < rows ? (uint8_t)below(16) : row_times_x(r);
+    for (uint64_t r = 1; r < rows; r++)
+        for (uint64_t s = 0; s < r; s++)
+            add_row(r, s, (uint8_t)below(16));
+    for (uint64_t r = 0; r < rows; r++)
+        for (uint64_t s = r + 1; s < rows; s++)
+            add_row(r, s, (uint8_t)below(16));
+}
+
+/* The steps and the mask draws, by the table of the paper with. */
+static void count_wide(uint64_t *steps, uint64_t *mask)
+{
+    uint64_t pairs = n * (n - 1) / 2, r = 0; /* pivots before column c */
+    *steps = *mask = 0;
+    for (uint64_t c = 1; c <= m && r < rows; c++) {
+        uint64_t length = m + 2 - c, below_it = rows - r - 1;
+        *steps += below_it + 1; /* Mix and Check */
+        *mask += below_it * (4 * pairs + length * pairs) + 4 * pairs + pairs;
+        if (r == found || pivots[r] != c)
+            continue;
+        *steps += 1 + below_it; /* Scale and Clear */
+        *mask += (n - 1) * (n - 1) + pairs + n * (n - 1) * length + below_it * length * pairs;
+        r++;
+    }
+    if (r < rows)
+        return;
+    *steps += 2 * rows - 1; /* Open and Lift */
+    *mask += rows * pairs;
+}
+
+static void write_wide(FILE *to)
+{
+    uint64_t steps, mask;
+    count_wide(&steps, &mask);
+    if (found == rows)
+        write_x(to, wide_x);
+    else
+        fprintf(to,
+                "short: the rank, %" PRIu64 ", is below the number of rows, %" PRIu64
+                ", so whether there is an x depends on b\n",
+                found, rows);
+    fprintf(to, "pivots: %s", found == 0 ? "none" : "");
+    for (uint64_t i = 0; i < found; i++)
+        fprintf(to, "%s%" PRIu64, i == 0 ? "" : ", ", pivots[i]);
+    fprintf(to, found == rows ? "\nchecked: A x = b for the numbers as typed\n" : "\n");
+    fprintf(to, "agreed: the plain engine has the same pivots%s\n", found == rows ? " and the same x" : "");
+    fprintf(to, "steps %" PRIu64 ", mask draws %" PRIu64 ", nonzero draws %" PRIu64 "\n", steps, mask, found * (n - 1));
+}
+
+/* ---- */
+
 static void write_file(const char *name, const char *end, void (*write)(FILE *))
 {
     char whole[4200];
@@ -130,26 +237,55 @@ static void write_file(const char *name, const char *end, void (*write)(FILE *))
         exit(2);
 }
 
-int main(int argc, char **argv)
+static void all_squares(const char *folder)
 {
     static const uint64_t sizes[] = {1, 2, 3, 4, 7, 16, 33, 96};
-    if (argc != 3)
-        return 2;
-    state = strtoull(argv[2], NULL, 10);
     for (field = 16; field <= 256; field += 240)
         for (n = 2; n <= 4; n++)
             for (size_t s = 0; s < sizeof sizes / sizeof sizes[0]; s++)
                 for (int kind = 0; kind < KINDS; kind++) {
                     char name[4096];
-                    m = sizes[s];
+                    rows = m = sizes[s];
                     if (m == 96 && kind != (int)(n % 3)) /* the largest take longest */
                         continue;
                     make_values(kind);
-                    snprintf(name, sizeof name, "%s/%" PRIu64 "-%" PRIu64 "-%" PRIu64 "-%d.txt", argv[1], field, n, m, kind);
+                    snprintf(name, sizeof name, "%s/%" PRIu64 "-%" PRIu64 "-%" PRIu64 "-%d.txt", folder, field, n, m, kind);
                     write_file(name, "", write_typed);
                     write_file(name, ".wanted", write_wanted);
                     write_file(name, ".plain", write_plain);
                     printf("%" PRIu64 " %" PRIu64 " %s\n", field, n, name);
                 }
+}
+
+static void all_wide(const char *folder)
+{
+    static const struct {
+        uint64_t rows, columns;
+    } sizes[] = {{1, 1}, {1, 144}, {2, 3}, {5, 5}, {7, 16}, {64, 72}, {96, 110}, {96, 144}}; /* MAYO's among them */
+    field = 16;
+    for (n = 2; n <= 4; n++)
+        for (size_t s = 0; s < sizeof sizes / sizeof sizes[0]; s++)
+            for (int kind = 0; kind < WIDE_KINDS; kind++) {
+                char name[4096];
+                rows = sizes[s].rows;
+                m = sizes[s].columns;
+                if (rows == 96 && kind != (int)(n - 2)) /* the largest take longest */
+                    continue;
+                make_wide(kind);
+                snprintf(name, sizeof name, "%s/wide-%" PRIu64 "-%" PRIu64 "-%" PRIu64 "-%d.txt", folder, n, rows, m,
+                         kind);
+                write_file(name, "", write_typed);
+                write_file(name, ".wanted", write_wide);
+                printf("16 %" PRIu64 " %s %" PRIu64 "\n", n, name, rows);
+            }
+}
+
+int main(int argc, char **argv)
+{
+    if (argc != 3)
+        return 2;
+    state = strtoull(argv[2], NULL, 10);
+    all_squares(argv[1]);
+    all_wide(argv[1]);
     return 0;
 }
