@@ -46,8 +46,8 @@
  * shuts out 0x00, 0x10, 0x20 .. 0xF0.
  * Draws are taken from the front, each byte once. Never lend a byte a second
  * time: the secrecy of the shares rests on it.
- * hz_solve, hz_wide_solve and hz_deal take tapes as long as needed or longer and
- * read only the part that is needed. hz_step and hz_wide_step want exactly the
+ * hz_solve, hz_wide_solve and hz_deal take tapes as long as wanted or longer and
+ * read nothing behind the part that is wanted. hz_step and hz_wide_step want exactly the
  * draws of their step, and hz_wanted and hz_wide_wanted tell beforehand how many
  * these are. hz_counts tells how many draws a full solve needs, and hz_wide_counts
  * how many a whole wide solve may need. A deal needs m(m+1)(n-1).
@@ -67,14 +67,16 @@
  *
  * of a table of M(C+1)n bytes. The solution has C bytes. A host deals its table
  * itself, or takes it from the steps of its signing scheme: for each entry any n
- * bytes 0..15 whose sum is the entry.
+ * bytes 0..15 whose sum is the entry. hz_deal, hz_gather, hz_plain, hz_write and
+ * hz_read are for square systems.
  *
  * The pivots are the columns that the columns before them don't combine to (the
  * empty combination is 0: a column of zeros is no pivot). At most M of them can
  * be. If there are M, the system is solved by exactly one x that is 0 at every
  * column that is no pivot, whatever b is: that is the solution. If there are
- * fewer, the rows' rank is below M and the system is short. Which columns are
- * pivots becomes known on the way, and is public.
+ * fewer, the rank is below M and the system is short. Which columns are pivots
+ * becomes known on the way, and is public; a record tells them, a whole solve does
+ * not.
  *
  *
  * EXCHANGE RECORD
@@ -194,7 +196,8 @@ extern "C" {
 #define HZ_SHORT     11 /* wide step: all 0.   wide solve: answer: steps, mask draws, nonzero draws */
 #define HZ_BAD_WORDS 99 /* record or answer of wrong length: nothing was written */
 
-/* The words of a record, and what its word HZ_STEP may say. */
+/* The words of a record, and what its word HZ_STEP may say. The bounds of j and k are
+ * those of a square record. */
 #define HZ_FIELD         0
 #define HZ_SHARES        1
 #define HZ_SIZE          2
@@ -363,8 +366,8 @@ uint64_t hz_counts(uint64_t field, uint64_t shares, uint64_t size,
 
 /* A fresh wide record, at the first step of a wide system of these sizes.
  *
- * HZ_FRESH: record becomes field, shares, rows, columns, the first place (Check(1)
- * for one row, else Mix(1,2)), no draws taken, no pivots found.
+ * HZ_FRESH: all words of record are written: field, shares, rows, columns, the first
+ * place (Check(1) for one row, else Mix(1,2)), no draws taken, no pivots found.
  * Refusals, in order: 1, 2, 3, 21. */
 uint64_t hz_wide_start(uint64_t field, uint64_t shares, uint64_t rows, uint64_t columns,
                        uint64_t *record, size_t record_len,
@@ -372,10 +375,11 @@ uint64_t hz_wide_start(uint64_t field, uint64_t shares, uint64_t rows, uint64_t 
 
 /* What hz_wide_solve must be lent.
  *
- * HZ_WANTED: answer: mask draws, nonzero draws. They are N mask draws a row and, for
- *     every column, the mask draws of its steps as if row 1 took its pivot; and n-1
- *     nonzero draws a row. That is enough whichever columns are pivots; how many are
- *     taken depends on that, and hz_wide_solve tells it.
+ * HZ_WANTED: answer: mask draws, nonzero draws, and no steps, which depend on the
+ *     pivots. They are N mask draws a row and, for every column, the mask draws of its
+ *     steps as if row 1 took its pivot; and n-1 nonzero draws a row. That is enough
+ *     whichever columns are pivots; how many are taken depends on these, and
+ *     hz_wide_solve tells it.
  * Refusals, in order: 1, 2, 3, 21. */
 uint64_t hz_wide_counts(uint64_t field, uint64_t shares, uint64_t rows, uint64_t columns,
                         uint64_t *answer, size_t answer_len);
@@ -401,13 +405,15 @@ uint64_t hz_wide_wanted(const uint64_t *record, size_t record_len,
  * rows k above the pivot's row.
  *
  * HZ_MOVED: after Mix, Check, Scale, Clear, Lift, also after a Check that passed its
- *     column over, unless the answer is HZ_SHORT. The record is at the next place; it
- *     keeps column j as a pivot from its Check on. The solution is unchanged.
+ *     column over, unless the answer is HZ_SHORT. The record is at the next place;
+ *     from a Check that opened 0 on it keeps column j as a pivot. The solution is
+ *     unchanged.
  * HZ_OPENED: after Open(j), where j is not the first pivot. Byte j-1 of the solution is
  *     x_j and its other bytes are unchanged; so is the table. The record is at Lift(j).
  * HZ_DONE: the same after Open of the first pivot; the record becomes done (j, k: 0).
  *     The bytes of columns that are no pivots were never written: they hold what the
- *     host put there.
+ *     host put there. Where it put zeros before the first step, the solution is now
+ *     that of hz_wide_solve.
  * HZ_SHORT: the last column was done, and a row has no pivot. The record becomes short
  *     (j, k: 0). The step itself, a Check or a Clear, was done on the table as ever;
  *     the solution is unchanged.
