@@ -17,7 +17,7 @@ INLINE uint64_t solve(unsigned w, size_t m, const uint8_t *values, uint8_t *solu
     for (size_t r = 0; r < m; r++) {
         row[r] = rows[r];
         memcpy(row[r], values + r * (m + 1), m + 1);
-        memset(row[r] + m + 1, 0, STRIDE - m - 1);
+        memset(row[r] + m + 1, 0, BEYOND);
     }
     for (size_t j = 0; j < m; j++) {
         size_t p = j;

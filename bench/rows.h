@@ -1,9 +1,10 @@
-/* The masked solve, a row at a time, for best.c and ordered.c. Before it is
- * included, HOLD(v) for vectors and HOLD_BYTE(v) say what keeps the compiler from
- * merging the value v with what is added to it later.
+/* The masked solve of square and of wide systems, a row at a time, for best.c and
+ * ordered.c. Before it is included, HOLD(v) for vectors and HOLD_BYTE(v) say what
+ * keeps the compiler from merging the value v with what is added to it later.
  *
  * Shares are kept in planes: share s of a row's entries stand side by side. Rows,
- * columns and shares are numbered from 0 here. */
+ * columns and shares are numbered from 0 here. Row r stands for column j: it is
+ * row j in a square system. */
 #include "solves.h"
 #include "vec.h"
 
@@ -14,7 +15,7 @@
 typedef uint8_t planes[4][STRIDE];
 
 typedef struct {
-    size_t m;
+    size_t rows, columns; /* b comes after the columns */
     planes *row;
     const uint8_t *mask, *nonzero; /* the next draws */
 } work;
@@ -158,14 +159,14 @@ INLINE void zero_flag(work *t, unsigned w, unsigned n, uint8_t a[4])
 
 /* ---- Rows ---- */
 
-/* Row `to` += Product(a, row `from`), columns first..m. A product is made of the
+/* Row `to` += Product(a, row `from`), from column `first` on. A product is made of the
  * bits of row `from`, so each bit is looked at once for all shares of a. The
  * shares of the row are taken from the last: then a_i·b_j with i < j is there
  * before a_j·b_i. */
 INLINE void add_product(work *t, unsigned w, unsigned n, size_t to, const uint8_t a[4], size_t from, size_t first)
 {
     unsigned pairs = n * (n - 1) / 2;
-    const size_t end = t->m + 1; /* copies: a store of bytes could change *t, for all that gcc knows */
+    const size_t end = t->columns + 1; /* copies: a store of bytes could change *t, for all that gcc knows */
     const uint8_t *mask = t->mask;
     uint8_t(*const target)[STRIDE] = t->row[to];
     uint8_t(*const source)[STRIDE] = t->row[from];
@@ -208,26 +209,27 @@ INLINE void add_product(work *t, unsigned w, unsigned n, size_t to, const uint8_
     t->mask = mask;
 }
 
-INLINE void mix(work *t, unsigned w, unsigned n, size_t j, size_t k)
+INLINE void mix(work *t, unsigned w, unsigned n, size_t r, size_t j, size_t k)
 {
     uint8_t flag[4];
-    get(t, n, j, j, flag);
+    get(t, n, r, j, flag);
     zero_flag(t, w, n, flag);
-    add_product(t, w, n, j, flag, k, j);
+    add_product(t, w, n, r, flag, k, j);
 }
 
-INLINE bool check_stops(work *t, unsigned w, unsigned n, size_t j)
+/* Whether the pivot is 0. */
+INLINE bool check(work *t, unsigned w, unsigned n, size_t r, size_t j)
 {
     uint8_t flag[4];
-    get(t, n, j, j, flag);
+    get(t, n, r, j, flag);
     zero_flag(t, w, n, flag);
     return opening(t, w, n, flag) == 1;
 }
 
-INLINE void scale(work *t, unsigned w, unsigned n, size_t j)
+INLINE void scale(work *t, unsigned w, unsigned n, size_t r, size_t j)
 {
     uint8_t a[4], factors[4];
-    get(t, n, j, j, a);
+    get(t, n, r, j, a);
     for (unsigned i = 0; i + 1 < n; i++) {
         factors[i] = draw(w, &t->nonzero);
         for (unsigned s = 0; s < n; s++)
@@ -238,97 +240,124 @@ INLINE void scale(work *t, unsigned w, unsigned n, size_t j)
     for (unsigned i = 0; i < n; i++) {
         vec of_factor[8];
         multiples(w, factors[i], of_factor);
-        for (size_t c = j; c <= t->m; c += 16) {
-            size_t left = t->m + 1 - c < 16 ? t->m + 1 - c : 16;
-            vec r[6], first = times_vec(w, of_factor, load(t->row[j][0] + c));
-            draw_columns(w, n - 1, t->mask, left, r);
+        for (size_t c = j; c <= t->columns; c += 16) {
+            size_t left = t->columns + 1 - c < 16 ? t->columns + 1 - c : 16;
+            vec z[6], first = times_vec(w, of_factor, load(t->row[r][0] + c));
+            draw_columns(w, n - 1, t->mask, left, z);
             t->mask += (n - 1) * left;
             for (unsigned s = 1; s < n; s++) {
-                first ^= r[s - 1];
-                store(t->row[j][s] + c, times_vec(w, of_factor, load(t->row[j][s] + c)) ^ r[s - 1]);
+                first ^= z[s - 1];
+                store(t->row[r][s] + c, times_vec(w, of_factor, load(t->row[r][s] + c)) ^ z[s - 1]);
             }
-            store(t->row[j][0] + c, first);
+            store(t->row[r][0] + c, first);
         }
     }
 }
 
-INLINE void clear(work *t, unsigned w, unsigned n, size_t j, size_t k)
+INLINE void clear(work *t, unsigned w, unsigned n, size_t r, size_t j, size_t k)
 {
     uint8_t copy[4];
     get(t, n, k, j, copy);
-    add_product(t, w, n, k, copy, j, j);
+    add_product(t, w, n, k, copy, r, j);
 }
 
-INLINE uint8_t open_unknown(work *t, unsigned w, unsigned n, size_t j)
+INLINE uint8_t open_unknown(work *t, unsigned w, unsigned n, size_t r)
 {
     uint8_t a[4];
-    get(t, n, j, t->m, a);
+    get(t, n, r, t->columns, a);
     return opening(t, w, n, a);
 }
 
 /* x is the unknown that was opened, which is public: one product to each share. */
-INLINE void lift(work *t, unsigned w, unsigned n, size_t j, uint8_t x)
+INLINE void lift(work *t, unsigned w, unsigned n, size_t r, size_t j, uint8_t x)
 {
-    for (size_t k = 0; k < j; k++)
+    for (size_t k = 0; k < r; k++)
         for (unsigned s = 0; s < n; s++)
-            t->row[k][s][t->m] ^= times(w, x, t->row[k][s][j]);
+            t->row[k][s][t->columns] ^= times(w, x, t->row[k][s][j]);
 }
 
-/* The step list. Returns the column that stopped it, from 1, or 0. */
-INLINE size_t run_list(work *t, unsigned w, unsigned n, uint8_t *solution)
+/* ---- The whole solve ---- */
+
+/* What came of the step list. */
+typedef struct {
+    size_t found, steps; /* rows that have a pivot, steps taken */
+} outcome;
+
+/* A column whose Check opens 1 ends the list of a square system, and is passed over in a
+ * wide one. */
+INLINE outcome run_list(work *t, unsigned w, unsigned n, bool wide, uint8_t *solution)
 {
-    for (size_t j = 0; j < t->m; j++) {
-        for (size_t k = j + 1; k < t->m; k++)
-            mix(t, w, n, j, k);
-        if (check_stops(t, w, n, j))
-            return j + 1;
-        scale(t, w, n, j);
-        for (size_t k = j + 1; k < t->m; k++)
-            clear(t, w, n, j, k);
+    size_t pivots[96], r = 0, steps = 0;
+    for (size_t j = 0; j < t->columns && r < t->rows; j++) {
+        for (size_t k = r + 1; k < t->rows; k++)
+            mix(t, w, n, r, j, k);
+        steps += t->rows - r;
+        if (check(t, w, n, r, j)) {
+            if (wide)
+                continue;
+            break;
+        }
+        scale(t, w, n, r, j);
+        for (size_t k = r + 1; k < t->rows; k++)
+            clear(t, w, n, r, j, k);
+        steps += t->rows - r;
+        pivots[r++] = j;
     }
-    for (size_t j = t->m; j-- > 0;) {
-        solution[j] = open_unknown(t, w, n, j);
-        if (j > 0)
-            lift(t, w, n, j, solution[j]);
+    if (r < t->rows)
+        return (outcome){r, steps};
+    while (r-- > 0) {
+        solution[pivots[r]] = open_unknown(t, w, n, r);
+        if (r > 0)
+            lift(t, w, n, r, pivots[r], solution[pivots[r]]);
     }
-    return 0;
+    return (outcome){t->rows, steps + 2 * t->rows - 1};
 }
 
 /* One copy of the code for each field and number of shares. */
-static size_t run_16_2(work *t, uint8_t *solution) { return run_list(t, 4, 2, solution); }
-static size_t run_16_3(work *t, uint8_t *solution) { return run_list(t, 4, 3, solution); }
-static size_t run_16_4(work *t, uint8_t *solution) { return run_list(t, 4, 4, solution); }
-static size_t run_256_2(work *t, uint8_t *solution) { return run_list(t, 8, 2, solution); }
-static size_t run_256_3(work *t, uint8_t *solution) { return run_list(t, 8, 3, solution); }
-static size_t run_256_4(work *t, uint8_t *solution) { return run_list(t, 8, 4, solution); }
+static outcome run_16_2(work *t, bool wide, uint8_t *solution) { return run_list(t, 4, 2, wide, solution); }
+static outcome run_16_3(work *t, bool wide, uint8_t *solution) { return run_list(t, 4, 3, wide, solution); }
+static outcome run_16_4(work *t, bool wide, uint8_t *solution) { return run_list(t, 4, 4, wide, solution); }
+static outcome run_256_2(work *t, bool wide, uint8_t *solution) { return run_list(t, 8, 2, wide, solution); }
+static outcome run_256_3(work *t, bool wide, uint8_t *solution) { return run_list(t, 8, 3, wide, solution); }
+static outcome run_256_4(work *t, bool wide, uint8_t *solution) { return run_list(t, 8, 4, wide, solution); }
 
-static uint64_t solve_rows(uint64_t field, uint64_t n, uint64_t m, uint8_t *table, uint8_t *solution,
-                           const uint8_t *mask, const uint8_t *nonzero, uint64_t answer[4])
+static void take_table(work *t, size_t n, const uint8_t *table)
 {
-    static size_t (*const runs[2][3])(work *, uint8_t *) = {{run_16_2, run_16_3, run_16_4},
-                                                            {run_256_2, run_256_3, run_256_4}};
-    planes rows[96];
-    work t = {m, rows, mask, nonzero};
-    for (size_t r = 0; r < m; r++)
+    size_t width = t->columns + 1;
+    for (size_t r = 0; r < t->rows; r++)
         for (size_t s = 0; s < n; s++) {
-            for (size_t c = 0; c <= m; c++)
-                rows[r][s][c] = table[(r * (m + 1) + c) * n + s];
-            memset(rows[r][s] + m + 1, 0, STRIDE - m - 1);
+            for (size_t c = 0; c < width; c++)
+                t->row[r][s][c] = table[(r * width + c) * n + s];
+            memset(t->row[r][s] + width, 0, BEYOND);
         }
-    uint64_t stop = runs[field == 256][n - 2](&t, solution);
-    for (size_t r = 0; r < m; r++)
-        for (size_t c = 0; c <= m; c++)
-            for (size_t s = 0; s < n; s++)
-                table[(r * (m + 1) + c) * n + s] = rows[r][s][c];
+}
 
-    uint64_t mask_taken = (uint64_t)(t.mask - mask), nonzero_taken = (uint64_t)(t.nonzero - nonzero);
-    if (stop == 0) {
-        memcpy(answer, (uint64_t[4]){m * m + 3 * m - 1, mask_taken, nonzero_taken, 0}, 4 * sizeof *answer);
-        return HZ_SOLVED;
-    }
-    memset(solution, 0, m);
-    /* full columns 1..stop-1 have 2(m-j)+2 steps each, the last one m-stop+1 */
-    uint64_t steps = (stop - 1) * (2 * m + 2) - stop * (stop - 1) + (m - stop + 1);
-    memcpy(answer, (uint64_t[4]){stop, steps, mask_taken, nonzero_taken}, 4 * sizeof *answer);
-    return HZ_STOPPED;
+static void give_table(const work *t, size_t n, uint8_t *table)
+{
+    size_t width = t->columns + 1;
+    for (size_t r = 0; r < t->rows; r++)
+        for (size_t c = 0; c < width; c++)
+            for (size_t s = 0; s < n; s++)
+                table[(r * width + c) * n + s] = t->row[r][s][c];
+}
+
+/* As hz_wide_solve answers where it is wide, and else as hz_solve. */
+static uint64_t solve_rows(uint64_t field, uint64_t n, uint64_t row_count, uint64_t columns, bool wide, uint8_t *table,
+                           uint8_t *solution, const uint8_t *mask, const uint8_t *nonzero, uint64_t answer[4])
+{
+    static outcome (*const runs[2][3])(work *, bool, uint8_t *) = {{run_16_2, run_16_3, run_16_4},
+                                                                   {run_256_2, run_256_3, run_256_4}};
+    planes rows[96];
+    work t = {row_count, columns, rows, mask, nonzero};
+    take_table(&t, n, table);
+    memset(solution, 0, columns);
+    outcome came = runs[field == 256][n - 2](&t, wide, solution);
+    give_table(&t, n, table);
+
+    uint64_t counts[4] = {came.steps, (uint64_t)(t.mask - mask), (uint64_t)(t.nonzero - nonzero), 0};
+    bool stopped = !wide && came.found < row_count;
+    if (stopped)
+        *answer++ = came.found + 1;
+    memcpy(answer, counts, (stopped ? 3 : 4) * sizeof *answer);
+    return stopped ? HZ_STOPPED : came.found < row_count ? HZ_SHORT : HZ_SOLVED;
 }

@@ -8,9 +8,10 @@
 
 typedef uint8_t vec __attribute__((vector_size(16)));
 
-/* A row is worked on from any column in sixteens, up to 15 columns beyond its
- * last; what stands there is never looked at. */
-#define STRIDE 112
+/* A row, of up to 145 columns, is worked on from any column in sixteens, so up to 15
+ * columns beyond its last; what stands there is never looked at. */
+#define BEYOND 15
+#define STRIDE (145 + BEYOND)
 
 /* So that w and n are constants in each copy of the code. */
 #define INLINE static inline __attribute__((always_inline))

@@ -2,8 +2,8 @@
  *
  *     look PROGRAM LISTING [FIELD SHARES]
  *
- * PROGRAM holds hz_step and hz_solve; it is emulated. docs/OBJECT.md tells what is
- * looked at. Exit status 0: nothing was found. */
+ * PROGRAM holds hz_step, hz_solve, hz_wide_step and hz_wide_solve; it is emulated.
+ * docs/OBJECT.md tells what is looked at. Exit status 0: nothing was found. */
 #include "hostozaro.h"
 #include "model.h"
 #include "rules.h"
@@ -21,23 +21,74 @@
 #define WHOLE 100
 
 typedef struct {
-    uint64_t step, m, j, k;
+    uint64_t step, j, k;
+    bool wide;
+    uint64_t rows, columns;
+    uint64_t pivots[4]; /* wide: those found so far, of a whole solve those it finds; zeros after them */
 } scene;
 
+#define SQUARE(m) false, m, m, {0}
+#define WIDE(rows, columns, ...) true, rows, columns, {__VA_ARGS__}
+
+/* In the wide ones no row is numbered as its column, and a row from column 2 of 144 on is
+ * longer than the library joins in one part. */
 static const scene scenes[] = {
-    {HZ_MIX, 4, 2, 4},    {HZ_CHECK, 4, 2, 0},  {HZ_SCALE, 4, 2, 0},  {HZ_CLEAR, 4, 2, 3},
-    {HZ_OPEN, 4, 3, 0},   {HZ_LIFT, 4, 3, 0},   {HZ_MIX, 35, 1, 2},   {HZ_SCALE, 35, 1, 0},
-    {HZ_CLEAR, 35, 1, 2}, {HZ_OPEN, 35, 35, 0}, {HZ_LIFT, 35, 35, 0}, {WHOLE, 3, 0, 0},
+    {HZ_MIX, 2, 4, SQUARE(4)},
+    {HZ_CHECK, 2, 0, SQUARE(4)},
+    {HZ_SCALE, 2, 0, SQUARE(4)},
+    {HZ_CLEAR, 2, 3, SQUARE(4)},
+    {HZ_OPEN, 3, 0, SQUARE(4)},
+    {HZ_LIFT, 3, 0, SQUARE(4)},
+    {HZ_MIX, 1, 2, SQUARE(35)},
+    {HZ_SCALE, 1, 0, SQUARE(35)},
+    {HZ_CLEAR, 1, 2, SQUARE(35)},
+    {HZ_OPEN, 35, 0, SQUARE(35)},
+    {HZ_LIFT, 35, 0, SQUARE(35)},
+    {WHOLE, 0, 0, SQUARE(3)},
+    {HZ_MIX, 3, 4, WIDE(4, 6, 1)},
+    {HZ_CHECK, 3, 0, WIDE(4, 6, 1)},
+    {HZ_SCALE, 3, 0, WIDE(4, 6, 1, 3)},
+    {HZ_CLEAR, 3, 4, WIDE(4, 6, 1, 3)},
+    {HZ_OPEN, 4, 0, WIDE(4, 6, 1, 3, 4, 6)},
+    {HZ_LIFT, 4, 0, WIDE(4, 6, 1, 3, 4, 6)},
+    {HZ_MIX, 2, 2, WIDE(2, 144, 0)},
+    {HZ_SCALE, 2, 0, WIDE(2, 144, 2)},
+    {HZ_CLEAR, 2, 2, WIDE(2, 144, 2)},
+    {WHOLE, 0, 0, WIDE(3, 5, 1, 3, 4)},
 };
 
 static x86 *machine;
 static sizes size;
 static const scene *now;
+static place here; /* where a scene of one step stands */
 static unsigned passed, failed;
+
+/* A record of either kind, and the place that it stands at. */
+typedef struct {
+    uint64_t word[HZ_WIDE_RECORD_WORDS];
+} record;
+
+static size_t record_words(void)
+{
+    return now->wide ? HZ_WIDE_RECORD_WORDS : HZ_RECORD_WORDS;
+}
+
+static place place_of(const record *r)
+{
+    const uint64_t *w = r->word;
+    if (!now->wide)
+        return (place){w[HZ_STEP], w[HZ_J], w[HZ_J], w[HZ_K]};
+    place at = {w[HZ_WIDE_STEP], w[HZ_WIDE_FOUND] + 1, w[HZ_WIDE_J], w[HZ_WIDE_K]};
+    if (at.step != HZ_MIX && at.step != HZ_CHECK)
+        for (at.row = 1; w[HZ_WIDE_PIVOTS + at.row - 1] != at.j;)
+            at.row++;
+    return at;
+}
 
 /* ---- Inputs ---- */
 
 #define ROOM 8192
+#define MOST_COLUMNS 144
 
 typedef struct {
     uint8_t values[ROOM / 2], table[ROOM], mask[ROOM], nonzero[16];
@@ -69,7 +120,7 @@ static uint8_t not_zero(void)
 
 static size_t entry_number(uint64_t row, uint64_t column)
 {
-    return (row - 1) * (size.m + 1) + column - 1;
+    return (row - 1) * (size.columns + 1) + column - 1;
 }
 
 static void new_draws(input *in)
@@ -92,8 +143,6 @@ static void deal(input *in)
     }
 }
 
-static uint64_t model_outcome(const input *in, uint8_t *table, uint8_t *solution, uint64_t *record);
-
 /* The flag of a pivot is made of Ands of its bits. In a quarter of the runs all bits are
  * 0, in others one in eight, in four or in two is 1: so each And has all kinds of bits. */
 static uint8_t some_pivot(void)
@@ -105,29 +154,71 @@ static uint8_t some_pivot(void)
     return v;
 }
 
-/* Values of all kinds; a whole system has one solution. */
+/* Whether a system has the pivots that are wanted of it: those of the scene, or every
+ * column of a square one, which then has one solution. */
+static bool has_pivots(const input *in)
+{
+    uint64_t answer[4], found[96];
+    uint8_t solution[MOST_COLUMNS];
+    if (now->wide)
+        return model_wide_plain(size.rows, size.columns, in->values, found, solution) == size.rows
+               && memcmp(found, now->pivots, size.rows * sizeof *found) == 0;
+    return model_plain(size.field, size.rows, in->values, entries, solution, size.rows, answer, 4) == HZ_SOLVED;
+}
+
+/* Each column before the last pivot that is to be passed over combines those before it. */
+static void combine_columns(input *in)
+{
+    size_t p = 0;
+    for (uint64_t c = 1; c < now->pivots[size.rows - 1]; c++) {
+        if (c == now->pivots[p]) {
+            p++;
+            continue;
+        }
+        uint8_t factor[MOST_COLUMNS];
+        for (uint64_t before = 1; before < c; before++)
+            factor[before - 1] = element();
+        for (uint64_t row = 1; row <= size.rows; row++) {
+            uint8_t *of_row = in->values + entry_number(row, 1), sum = 0;
+            for (uint64_t before = 1; before < c; before++)
+                sum ^= model_times(size.field, factor[before - 1], of_row[before - 1]);
+            of_row[c - 1] = sum;
+        }
+    }
+}
+
+/* Pivots of all kinds on the way of a whole solve. In half of the systems the second one is
+ * 0 when it is sought: row 2 is a multiple of row 1 there, less row 3 in a wide system, where
+ * Mix adds that at the column that is passed over. */
+static void make_whole(input *in)
+{
+    uint64_t columns[2] = {1, now->wide ? now->pivots[1] : 2};
+    in->values[entry_number(1, 1)] = some_pivot();
+    in->values[entry_number(2, 1)] = some_pivot();
+    uint8_t c = element();
+    bool second_is_zero = any() % 2;
+    for (size_t i = 0; i < 2 && second_is_zero; i++) {
+        uint8_t multiple = model_times(size.field, c, in->values[entry_number(1, columns[i])]);
+        in->values[entry_number(2, columns[i])] = multiple ^ (now->wide ? in->values[entry_number(3, columns[i])] : 0);
+    }
+    if (now->wide)
+        combine_columns(in);
+}
+
+/* Values of all kinds; a whole system has the pivots that are wanted. */
 static void new_values(input *in)
 {
-    uint8_t table[ROOM], solution[96];
-    uint64_t record[HZ_RECORD_WORDS];
     do {
         for (size_t e = 0; e < entries; e++)
             in->values[e] = element();
-        if (now->step == WHOLE) {
-            in->values[0] = some_pivot();
-            in->values[entry_number(2, 1)] = some_pivot();
-            if (any() % 2) { /* the next pivot is 0 after Clear(1,2) */
-                uint8_t c = element();
-                for (size_t i = 0; i < 2; i++)
-                    in->values[entry_number(2, 1 + i)] = model_times(size.field, c, in->values[i]);
-            }
-        } else if (now->step == HZ_MIX || now->step == HZ_CHECK) {
-            in->values[entry_number(now->j, now->j)] = some_pivot();
-        } else if (now->step == HZ_SCALE) {
-            in->values[entry_number(now->j, now->j)] = not_zero();
-        }
-        deal(in);
-    } while (now->step == WHOLE && model_outcome(in, table, solution, record) != HZ_SOLVED);
+        if (now->step == WHOLE)
+            make_whole(in);
+        else if (now->step == HZ_MIX || now->step == HZ_CHECK)
+            in->values[entry_number(here.row, here.j)] = some_pivot();
+        else if (now->step == HZ_SCALE)
+            in->values[entry_number(here.row, here.j)] = not_zero();
+    } while (now->step == WHOLE && !has_pivots(in));
+    deal(in);
 }
 
 /* Everything new in each run. */
@@ -150,20 +241,22 @@ static uint8_t opening_to(uint8_t u, const input *in)
     return v;
 }
 
-/* What is opened is the same in each run, and all else is new. A whole solve opens so
- * much that its values and nonzero draws stay. */
-static void make_same_opened(void)
+/* What is opened is the same in each run, and all else is new. Check opens this flag, and
+ * a whole solve so much that its values and nonzero draws stay. */
+static void make_same_opened(bool flag)
 {
     make_new();
-    size_t pivot = now->j ? entry_number(now->j, now->j) : 0, last = now->j ? entry_number(now->j, size.m + 1) : 0;
+    bool whole = now->step == WHOLE;
+    size_t pivot = whole ? 0 : entry_number(here.row, here.j);
+    size_t last = whole ? 0 : entry_number(here.row, size.columns + 1);
     uint8_t u = not_zero();
     for (int r = 0; r < RUNS; r++) {
         input *in = &inputs[r];
-        if (now->step == WHOLE) {
+        if (whole) {
             memcpy(in->nonzero, inputs[0].nonzero, nonzero_len);
             memcpy(in->values, inputs[0].values, entries);
         } else if (now->step == HZ_CHECK)
-            in->values[pivot] = inputs[0].values[pivot] == 0 ? 0 : not_zero();
+            in->values[pivot] = flag ? 0 : not_zero();
         else if (now->step == HZ_SCALE)
             in->values[pivot] = opening_to(u, in);
         else if (now->step == HZ_OPEN || now->step == HZ_LIFT)
@@ -175,65 +268,85 @@ static void make_same_opened(void)
 /* ---- Calls ---- */
 
 /* A record at the scene's step, as the steps before it leave it. A whole solve has none. */
-static void first_record(uint64_t record[HZ_RECORD_WORDS])
+static record first_record(void)
 {
-    memcpy(record, (uint64_t[HZ_RECORD_WORDS]){size.field, size.n, size.m, now->step, now->j, now->k},
-           HZ_RECORD_WORDS * sizeof *record);
-    if (now->step != WHOLE)
-        model_taken(size.field, size.n, size.m, now->step, now->j, now->k, &record[HZ_MASK_TAKEN],
-                    &record[HZ_NONZERO_TAKEN]);
+    record r = {{0}};
+    if (now->step == WHOLE)
+        return r;
+    if (!now->wide) {
+        r = (record){{size.field, size.n, size.rows, now->step, now->j, now->k}};
+        model_taken(size.field, size.n, size.rows, now->step, now->j, now->k, &r.word[HZ_MASK_TAKEN],
+                    &r.word[HZ_NONZERO_TAKEN]);
+        return r;
+    }
+    r = (record){{size.field, size.n, size.rows, size.columns, now->step, now->j, now->k}};
+    memcpy(&r.word[HZ_WIDE_PIVOTS], now->pivots, sizeof now->pivots);
+    while (r.word[HZ_WIDE_FOUND] < 4 && now->pivots[r.word[HZ_WIDE_FOUND]] != 0)
+        r.word[HZ_WIDE_FOUND]++;
+    model_wide_taken(r.word, &r.word[HZ_WIDE_MASK_TAKEN], &r.word[HZ_WIDE_NONZERO_TAKEN]);
+    return r;
 }
 
 /* The solution likewise: Lift(j) is lent the x_j that Open(j) has written, which is the
- * value of T[j,m+1]. The other steps look at none of it. */
-static void first_solution(const input *in, uint8_t solution[96])
+ * value of column j's row in the last column. The other steps look at none of it. */
+static void first_solution(const input *in, uint8_t solution[MOST_COLUMNS])
 {
-    memset(solution, 0, 96);
+    memset(solution, 0, MOST_COLUMNS);
     if (now->step == HZ_LIFT)
-        solution[now->j - 1] = in->values[entry_number(now->j, size.m + 1)];
+        solution[now->j - 1] = in->values[entry_number(here.row, size.columns + 1)];
 }
 
-static uint64_t model_outcome(const input *in, uint8_t *table, uint8_t *solution, uint64_t *record)
+static uint64_t step_by_model(record *r, uint8_t *table, uint8_t *solution, const uint8_t *mask, uint64_t masks,
+                              const uint8_t *nonzero, uint64_t nonzeros)
 {
     uint64_t answer[4];
+    return (now->wide ? model_wide_step : model_step)(r->word, record_words(), table, table_len, solution,
+                                                      size.columns, mask, masks, nonzero, nonzeros, answer, 4);
+}
+
+static uint64_t model_outcome(const input *in, uint8_t *table, uint8_t *solution)
+{
+    uint64_t answer[4];
+    record r = first_record();
     memcpy(table, in->table, table_len);
     first_solution(in, solution);
-    first_record(record);
-    if (now->step == WHOLE)
-        return model_solve(size.field, size.n, size.m, table, table_len, solution, size.m, in->mask, mask_len,
-                           in->nonzero, nonzero_len, answer, 4);
-    return model_step(record, HZ_RECORD_WORDS, table, table_len, solution, size.m, in->mask, mask_len, in->nonzero,
-                      nonzero_len, answer, 4);
+    if (now->step != WHOLE)
+        return step_by_model(&r, table, solution, in->mask, mask_len, in->nonzero, nonzero_len);
+    if (now->wide)
+        return model_wide_solve(size.field, size.n, size.rows, size.columns, table, table_len, solution, size.columns,
+                                in->mask, mask_len, in->nonzero, nonzero_len, answer, 4);
+    return model_solve(size.field, size.n, size.rows, table, table_len, solution, size.columns, in->mask, mask_len,
+                       in->nonzero, nonzero_len, answer, 4);
 }
 
 /* Runs the library on an input, and makes sure that it does what the model does. */
 static void call(const input *in, bool values, trace *t)
 {
-    uint64_t record[HZ_RECORD_WORDS], code, empty[4] = {0};
-    uint8_t table[ROOM], solution[96], wanted_table[ROOM], wanted_solution[96];
-    first_record(record);
+    uint64_t code, empty[4] = {0};
+    uint8_t table[ROOM], solution[MOST_COLUMNS], wanted_table[ROOM], wanted_solution[MOST_COLUMNS];
+    record r = first_record();
     first_solution(in, solution);
     x86_reset(machine);
-    uint64_t at_record = x86_lend(machine, record, sizeof record);
+    uint64_t at_record = x86_lend(machine, r.word, record_words() * sizeof *r.word);
     uint64_t at_table = x86_lend(machine, in->table, table_len);
-    uint64_t at_solution = x86_lend(machine, solution, size.m);
+    uint64_t at_solution = x86_lend(machine, solution, size.columns);
     uint64_t at_mask = x86_lend(machine, in->mask, mask_len);
     uint64_t at_nonzero = x86_lend(machine, in->nonzero, nonzero_len);
     uint64_t at_answer = x86_lend(machine, empty, sizeof empty);
-    if (now->step == WHOLE)
-        code = trace_call(machine, "hz_solve",
-                          (uint64_t[]){size.field, size.n, size.m, at_table, table_len, at_solution, size.m, at_mask,
-                                       mask_len, at_nonzero, nonzero_len, at_answer, 4},
-                          13, values, t);
-    else
-        code = trace_call(machine, "hz_step",
-                          (uint64_t[]){at_record, HZ_RECORD_WORDS, at_table, table_len, at_solution, size.m, at_mask,
-                                       mask_len, at_nonzero, nonzero_len, at_answer, 4},
-                          12, values, t);
+    static const char *const names[2][2] = {{"hz_step", "hz_solve"}, {"hz_wide_step", "hz_wide_solve"}};
+    uint64_t arguments[14] = {size.field, size.n, size.rows, size.columns};
+    size_t count = now->wide ? 4 : 3;
+    if (now->step != WHOLE)
+        arguments[0] = at_record, arguments[1] = record_words(), count = 2;
+    memcpy(arguments + count,
+           (uint64_t[]){at_table, table_len, at_solution, size.columns, at_mask, mask_len, at_nonzero, nonzero_len,
+                        at_answer, 4},
+           10 * sizeof *arguments);
+    code = trace_call(machine, names[now->wide][now->step == WHOLE], arguments, count + 10, values, t);
     x86_take(machine, at_table, table, table_len);
-    x86_take(machine, at_solution, solution, size.m);
-    if (code != model_outcome(in, wanted_table, wanted_solution, record) || memcmp(table, wanted_table, table_len) != 0
-        || memcmp(solution, wanted_solution, size.m) != 0) {
+    x86_take(machine, at_solution, solution, size.columns);
+    if (code != model_outcome(in, wanted_table, wanted_solution) || memcmp(table, wanted_table, table_len) != 0
+        || memcmp(solution, wanted_solution, size.columns) != 0) {
         printf("the library differs from the model\n");
         exit(2);
     }
@@ -271,17 +384,15 @@ static bool all_alike(void)
 
 /* ---- What is told ---- */
 
-static const char *step_text(uint64_t step, uint64_t j, uint64_t k)
+static const char *step_text(const place *at)
 {
     static const char *const names[] = {[HZ_MIX] = "Mix",     [HZ_CHECK] = "Check", [HZ_SCALE] = "Scale",
                                         [HZ_CLEAR] = "Clear", [HZ_OPEN] = "Open",   [HZ_LIFT] = "Lift"};
     static char text[64];
-    if (step == WHOLE)
-        snprintf(text, sizeof text, "whole solve");
-    else if (k != 0)
-        snprintf(text, sizeof text, "%s(%" PRIu64 ",%" PRIu64 ")", names[step], j, k);
+    if (at->k != 0)
+        snprintf(text, sizeof text, "%s(%" PRIu64 ",%" PRIu64 ")", names[at->step], at->j, at->k);
     else
-        snprintf(text, sizeof text, "%s(%" PRIu64 ")", names[step], j);
+        snprintf(text, sizeof text, "%s(%" PRIu64 ")", names[at->step], at->j);
     return text;
 }
 
@@ -313,8 +424,12 @@ __attribute__((format(printf, 1, 2))) static void verdict(const char *format, ..
 {
     va_list rest;
     va_start(rest, format);
-    printf("%s F%" PRIu64 " n=%" PRIu64 " m=%" PRIu64 " %s: ", findings == 0 ? "ok  " : "FAIL", size.field, size.n,
-           size.m, step_text(now->step, now->j, now->k));
+    printf("%s F%" PRIu64 " n=%" PRIu64, findings == 0 ? "ok  " : "FAIL", size.field, size.n);
+    if (now->wide)
+        printf(" wide %" PRIu64 "x%" PRIu64, size.rows, size.columns);
+    else
+        printf(" m=%" PRIu64, size.rows);
+    printf(" %s: ", now->step == WHOLE ? "whole solve" : step_text(&here));
     vprintf(format, rest);
     if (findings != 0)
         printf("; %u found", findings);
@@ -329,27 +444,28 @@ __attribute__((format(printf, 1, 2))) static void verdict(const char *format, ..
 
 /* What is done with the rules of each step of a run: `at` is the number of the first
  * thing that is noted of them, and the number after the last is returned. */
-typedef size_t visitor(int r, size_t at, const uint64_t *record, const rule *rules, size_t count);
+typedef size_t visitor(int r, size_t at, const place *step, const rule *rules, size_t count);
 
 static void walk(int r, visitor *visit)
 {
-    uint64_t record[HZ_RECORD_WORDS], answer[4], code;
-    uint8_t table[ROOM], solution[96];
+    uint64_t answer[4], code;
+    uint8_t table[ROOM], solution[MOST_COLUMNS];
+    record rec = first_record();
     const uint8_t *mask = inputs[r].mask, *nonzero = inputs[r].nonzero;
     memcpy(table, inputs[r].table, table_len);
     first_solution(&inputs[r], solution);
-    if (now->step == WHOLE)
-        model_start(size.field, size.n, size.m, record, HZ_RECORD_WORDS, answer, 4);
-    else
-        first_record(record);
+    if (now->step == WHOLE && now->wide)
+        model_wide_start(size.field, size.n, size.rows, size.columns, rec.word, record_words(), answer, 4);
+    else if (now->step == WHOLE)
+        model_start(size.field, size.n, size.rows, rec.word, record_words(), answer, 4);
     size_t at = 0;
     do {
         rule rules[MAX_RULES];
-        uint64_t masks = model_mask_draws(size.field, size.n, size.m, record[HZ_STEP], record[HZ_J]);
-        uint64_t nonzeros = model_nonzero_draws(size.n, record[HZ_STEP]);
-        at = visit(r, at, record, rules, rules_of(&size, record, table, solution, mask, nonzero, rules));
-        code = model_step(record, HZ_RECORD_WORDS, table, table_len, solution, size.m, mask, masks, nonzero, nonzeros,
-                          answer, 4);
+        place step = place_of(&rec);
+        uint64_t masks = model_mask_draws(size.field, size.n, size.columns, step.step, step.j);
+        uint64_t nonzeros = model_nonzero_draws(size.n, step.step);
+        at = visit(r, at, &step, rules, rules_of(&size, &step, table, solution, mask, nonzero, rules));
+        code = step_by_model(&rec, table, solution, mask, masks, nonzero, nonzeros);
         mask += masks;
         nonzero += nonzeros;
     } while (now->step == WHOLE && (code == HZ_MOVED || code == HZ_OPENED));
@@ -362,16 +478,14 @@ static size_t watch_count;
 static uint64_t different;
 
 /* The first run makes the watches. */
-static size_t watch_rules(int r, size_t at, const uint64_t *record, const rule *rules, size_t count)
+static size_t watch_rules(int r, size_t at, const place *step, const rule *rules, size_t count)
 {
     for (size_t i = 0; i < count; i++)
         for (unsigned bit = 0; bit < (rules[i].bits ? rules[i].bits : 1); bit++, at++) {
             if (r == 0) {
                 watches = realloc(watches, ++watch_count * sizeof *watches);
                 memset(&watches[at], 0, sizeof *watches);
-                watches[at].step = record[HZ_STEP];
-                watches[at].j = record[HZ_J];
-                watches[at].k = record[HZ_K];
+                watches[at].at = *step;
                 watches[at].bit = bit;
             }
             watches[at].in[r] = rules[i];
@@ -396,7 +510,7 @@ static void show(const series *v, bool is_bit, uint32_t pc)
         watch *w = &watches[i];
         const char *fault = (w->in[0].bits != 0) == is_bit ? watch_see(w, v) : NULL;
         if (fault != NULL)
-            finding("%s of %s, by %s (%s)", fault, step_text(w->step, w->j, w->k), place_text(pc), trace_text(pc));
+            finding("%s of %s, by %s (%s)", fault, step_text(&w->at), place_text(pc), trace_text(pc));
     }
 }
 
@@ -500,7 +614,7 @@ static void test_order(void)
     for (size_t i = 0; i < watch_count && to_the_end; i++) {
         const char *missed = watch_missed(&watches[i]);
         if (missed != NULL)
-            finding("%s of %s", missed, step_text(watches[i].step, watches[i].j, watches[i].k));
+            finding("%s of %s", missed, step_text(&watches[i].at));
     }
     verdict("order of additions, %zu rules watched (%zu left out) among %" PRIu64 " different values",
             watch_count - left_out, left_out, different);
@@ -512,9 +626,9 @@ static void test_order(void)
 static series *shares;
 static size_t share_count;
 
-static size_t note_shares(int r, size_t at, const uint64_t *record, const rule *rules, size_t count)
+static size_t note_shares(int r, size_t at, const place *step, const rule *rules, size_t count)
 {
-    (void)record;
+    (void)step;
     if (r == 0) {
         share_count += 3 * size.n * count;
         shares = realloc(shares, share_count * sizeof *shares);
@@ -635,32 +749,43 @@ static void test_emulator(void)
     }
 }
 
+static void test_same_opened(bool flag, const char *inputs_text)
+{
+    make_same_opened(flag);
+    call_all(false);
+    test_branches(inputs_text);
+    test_addresses(inputs_text);
+}
+
 static void test_scene(const scene *s)
 {
-    uint64_t counts[4];
     now = s;
-    size.m = s->m;
-    entries = size.m * (size.m + 1);
+    size.rows = s->rows;
+    size.columns = s->columns;
+    entries = size.rows * (size.columns + 1);
     table_len = entries * size.n;
     if (s->step == WHOLE) {
-        model_counts(size.field, size.n, size.m, counts, 4);
-        mask_len = counts[1], nonzero_len = counts[2];
+        mask_len = s->wide ? model_wide_mask_draws(size.n, size.rows, size.columns)
+                           : model_full_mask_draws(size.field, size.n, size.rows);
+        nonzero_len = size.rows * (size.n - 1);
     } else {
-        mask_len = model_mask_draws(size.field, size.n, size.m, s->step, s->j);
+        record r = first_record();
+        here = place_of(&r);
+        mask_len = model_mask_draws(size.field, size.n, size.columns, s->step, s->j);
         nonzero_len = model_nonzero_draws(size.n, s->step);
     }
     make_new();
     call_all(true);
     test_order();
-    if (s->step != HZ_CHECK) { /* it opens whether to stop, and then does */
-        test_branches("all new");
-        if (size.field == 256) /* F16 has tables, which what is opened is looked up in */
-            test_addresses("all new");
+    if (s->step == HZ_CHECK) { /* it opens which way to take, and then takes it */
+        test_same_opened(false, "all new but the flag, which is 0");
+        test_same_opened(true, "all new but the flag, which is 1");
+        return;
     }
-    make_same_opened();
-    call_all(false);
-    test_branches("all new but what is opened");
-    test_addresses("all new but what is opened");
+    test_branches("all new");
+    if (size.field == 256) /* F16 has tables, which what is opened is looked up in */
+        test_addresses("all new");
+    test_same_opened(false, "all new but what is opened");
 }
 
 int main(int argc, char **argv)
@@ -673,7 +798,8 @@ int main(int argc, char **argv)
     for (size.field = 16; size.field <= 256; size.field += 240)
         for (size.n = 2; size.n <= 4; size.n++)
             for (size_t i = 0; i < sizeof scenes / sizeof *scenes; i++)
-                if (argc == 3 || (size.field == strtoull(argv[3], NULL, 10) && size.n == strtoull(argv[4], NULL, 10)))
+                if ((argc == 3 || (size.field == strtoull(argv[3], NULL, 10) && size.n == strtoull(argv[4], NULL, 10)))
+                    && (size.field == 16 || !scenes[i].wide))
                     test_scene(&scenes[i]);
     print_look_ups();
     printf("%u passed, %u failed\n", passed, failed);

@@ -15,7 +15,7 @@ typedef struct {
 
 static const uint8_t *entry(const list *l, uint64_t row, uint64_t column)
 {
-    return l->table + ((row - 1) * (l->s->m + 1) + column - 1) * l->s->n;
+    return l->table + ((row - 1) * (l->s->columns + 1) + column - 1) * l->s->n;
 }
 
 static rule *add_rule(list *l, rule_kind kind, const uint8_t *a)
@@ -104,9 +104,9 @@ static rule *add_and(list *l, uint8_t flag[4], const uint8_t t[4])
 }
 
 /* Only the low h bits of a fold count: the flag does not depend on the others. */
-static void add_flag(list *l, uint64_t j, bool opened, uint8_t flag[4])
+static void add_flag(list *l, const place *at, bool opened, uint8_t flag[4])
 {
-    memcpy(flag, entry(l, j, j), l->s->n);
+    memcpy(flag, entry(l, at->row, at->j), l->s->n);
     flag[0] ^= (uint8_t)(l->s->field - 1);
     for (unsigned h = l->s->field == 16 ? 2 : 4; h >= 1; h /= 2) {
         uint8_t t[4];
@@ -124,7 +124,7 @@ static void add_flag(list *l, uint64_t j, bool opened, uint8_t flag[4])
 /* Row `to` += Product(a, row `from`), from column j on. */
 static void add_products(list *l, const uint8_t *a, uint64_t to, uint64_t from, uint64_t j)
 {
-    for (uint64_t c = j; c <= l->s->m + 1; c++) {
+    for (uint64_t c = j; c <= l->s->columns + 1; c++) {
         rule *r = add_rule(l, PRODUCT, a);
         memcpy(r->b, entry(l, from, c), l->s->n);
         memcpy(r->target, entry(l, to, c), l->s->n);
@@ -140,64 +140,64 @@ static uint8_t inverse(uint64_t field, uint8_t a)
     return v;
 }
 
-static void add_scale(list *l, uint64_t j, const uint8_t *nonzero)
+static void add_scale(list *l, const place *at, const uint8_t *nonzero)
 {
     size_t n = l->s->n;
-    uint8_t factors[4], shares[4], row[97][4];
-    memcpy(shares, entry(l, j, j), n);
+    uint64_t j = at->j, last = l->s->columns + 1;
+    uint8_t factors[4], shares[4], row[145][4];
+    memcpy(shares, entry(l, at->row, j), n);
     for (size_t i = 0; i + 1 < n; i++) {
         factors[i] = (uint8_t)(nonzero[i] % l->s->field);
         add_scaled(l, shares, factors[i])->opened = i + 2 == n ? 'a' : 0;
     }
     factors[n - 1] = inverse(l->s->field, add_opening(l, shares, 0));
-    for (uint64_t c = j; c <= l->s->m + 1; c++)
-        memcpy(row[c - 1], entry(l, j, c), n);
+    for (uint64_t c = j; c <= last; c++)
+        memcpy(row[c - 1], entry(l, at->row, c), n);
     for (size_t i = 0; i < n; i++)
-        for (uint64_t c = j; c <= l->s->m + 1; c++) {
+        for (uint64_t c = j; c <= last; c++) {
             rule *r = add_scaled(l, row[c - 1], factors[i]);
             if (c == j) /* the pivot with all nonzero draws has been opened */
                 r->opened = i + 2 == n ? 'a' : i + 1 == n ? 'b' : 0;
-            if (c == l->s->m + 1 && j == l->s->m && i + 1 == n) /* the next step opens it */
+            if (c == last && at->row == l->s->rows && i + 1 == n) /* the next step opens it */
                 r->opened = 'a';
         }
 }
 
 /* R-7: x comes from the solution. So the shares that it was opened of stay as they are,
  * and a sum of some of them is no more allowed here than in the Opening. */
-static void add_lift(list *l, uint64_t j, uint8_t x)
+static void add_lift(list *l, const place *at, uint8_t x)
 {
-    uint64_t last = l->s->m + 1;
+    uint64_t last = l->s->columns + 1;
     uint8_t times_x[4];
-    add_rule(l, OPENED, entry(l, j, last))->opened = 'a';
-    for (uint64_t k = 1; k < j; k++) {
+    add_rule(l, OPENED, entry(l, at->row, last))->opened = 'a';
+    for (uint64_t k = 1; k < at->row; k++) {
         for (size_t i = 0; i < l->s->n; i++)
-            times_x[i] = model_times(l->s->field, x, entry(l, k, j)[i]);
+            times_x[i] = model_times(l->s->field, x, entry(l, k, at->j)[i]);
         rule *r = add_rule(l, LIFT, times_x);
-        memcpy(r->b, entry(l, k, j), l->s->n);
+        memcpy(r->b, entry(l, k, at->j), l->s->n);
         memcpy(r->target, entry(l, k, last), l->s->n);
-        r->opened = k == j - 1 ? 'a' : 0; /* by the next step */
+        r->opened = k == at->row - 1 ? 'a' : 0; /* by the next step */
     }
 }
 
-size_t rules_of(const sizes *s, const uint64_t *record, const uint8_t *table, const uint8_t *solution,
-                const uint8_t *mask, const uint8_t *nonzero, rule *out)
+size_t rules_of(const sizes *s, const place *at, const uint8_t *table, const uint8_t *solution, const uint8_t *mask,
+                const uint8_t *nonzero, rule *out)
 {
     list l = {s, table, mask, out, 0};
-    uint64_t j = record[HZ_J], k = record[HZ_K];
     uint8_t flag[4];
-    switch (record[HZ_STEP]) {
+    switch (at->step) {
     case HZ_MIX:
-        add_flag(&l, j, false, flag);
-        add_products(&l, flag, j, k, j);
+        add_flag(&l, at, false, flag);
+        add_products(&l, flag, at->row, at->k, at->j);
         break;
     case HZ_CHECK:
-        add_flag(&l, j, true, flag);
+        add_flag(&l, at, true, flag);
         add_opening(&l, flag, 1);
         break;
-    case HZ_SCALE: add_scale(&l, j, nonzero); break;
-    case HZ_CLEAR: add_products(&l, entry(&l, k, j), k, j, j); break;
-    case HZ_OPEN: add_opening(&l, entry(&l, j, s->m + 1), 0); break;
-    default: add_lift(&l, j, solution[j - 1]); break;
+    case HZ_SCALE: add_scale(&l, at, nonzero); break;
+    case HZ_CLEAR: add_products(&l, entry(&l, at->k, at->j), at->k, at->row, at->j); break;
+    case HZ_OPEN: add_opening(&l, entry(&l, at->row, s->columns + 1), 0); break;
+    default: add_lift(&l, at, solution[at->j - 1]); break;
     }
     return l.count;
 }

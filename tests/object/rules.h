@@ -7,8 +7,13 @@
 #include <stdint.h>
 
 typedef struct {
-    uint64_t field, n, m;
+    uint64_t field, n, rows, columns; /* b is column columns+1 */
 } sizes;
+
+/* A place in the step list. The row stands for column j: it is row j in a square system. */
+typedef struct {
+    uint64_t step, row, j, k;
+} place;
 
 typedef enum {
     PRODUCT,      /* target += Product(a, b) */
@@ -29,10 +34,10 @@ typedef struct {
     uint8_t z[6]; /* the draws: one to each pair of shares, in Refresh to the pairs of the first share */
 } rule;
 
-/* Those of the step that a record stands at, before it is done; the solution is what it
- * is lent. Returns how many; at most MAX_RULES. */
-#define MAX_RULES 400
-size_t rules_of(const sizes *s, const uint64_t *record, const uint8_t *table, const uint8_t *solution,
-                const uint8_t *mask, const uint8_t *nonzero, rule *out);
+/* Those of the step at a place, before it is done; the solution is what it is lent.
+ * Returns how many; at most MAX_RULES. */
+#define MAX_RULES 600
+size_t rules_of(const sizes *s, const place *at, const uint8_t *table, const uint8_t *solution, const uint8_t *mask,
+                const uint8_t *nonzero, rule *out);
 
 #endif

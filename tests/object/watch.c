@@ -40,6 +40,18 @@ static void must_add(watch *w, name x, unsigned draw)
     w->independent = add_name(w, x, draw) && w->independent;
 }
 
+/* The first target of Clear is the factor itself, whose names then count. Another target
+ * that is a sum of names, as where Clear brings 0 about in a column that is passed over
+ * later, leaves nothing that can be told. */
+static void add_target(watch *w, uint8_t i)
+{
+    bool is_factor = true;
+    for (int r = 0; r < RUNS; r++)
+        is_factor = is_factor && w->in[r].target[i] == w->in[r].a[i];
+    if (!is_factor)
+        must_add(w, (name){'t', i, 0, 0}, 0);
+}
+
 static void add_draws(watch *w)
 {
     unsigned draw = 0;
@@ -118,10 +130,8 @@ void watch_open(const sizes *s, watch *w)
     if (kind == PRODUCT || kind == AND)
         add_products(w);
     for (uint8_t i = 0; i < w->n; i++) {
-        if (kind == LIFT)
-            must_add(w, (name){'t', i, 0, 0}, 0);
-        if (kind == PRODUCT) /* the first target of Clear is the factor itself */
-            add_name(w, (name){'t', i, 0, 0}, 0);
+        if (kind == LIFT || kind == PRODUCT)
+            add_target(w, i);
         if (kind == LIFT || kind == REFRESH)
             add_name(w, (name){'b', i, 0, 0}, 0);
     }

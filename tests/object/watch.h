@@ -18,8 +18,8 @@ typedef struct {
 
 typedef struct {
     rule in[RUNS];
-    uint64_t step, j, k; /* the step that it belongs to */
-    unsigned bit;        /* which one, where bits are looked at */
+    place at;     /* of the step that it belongs to */
+    unsigned bit; /* which one, where bits are looked at */
     uint64_t field, n;
     unsigned parts; /* of a product */
     name name[MAX_NAMES];
@@ -31,7 +31,7 @@ typedef struct {
     size_t wanted_count;
 } watch;
 
-/* After in, step, j, k and bit are there. */
+/* After in, at and bit are there. */
 void watch_open(const sizes *s, watch *w);
 
 /* Something that stands somewhere, as an element or as a bit: what is wrong with it, or
