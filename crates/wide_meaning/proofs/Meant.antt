@@ -25,9 +25,9 @@ use Rattle.pattern.specs.declared.WidePlace.the-variants.{At, Short, Done}
 use Rattle.pattern.specs.Pivots.{listed, ascends}
 use Rattle.pattern.specs.PatternList.{Sizes, nonzeroCost}
 use Rattle.pattern.specs.Next.{startOf, movedOn}
-use Rattle.wide_walk.specs.WideWalk.{Tally, opened, spent, walk, mostSteps, countsOf, endingAt, conclude, begun, ended, solved, patternOf}
+use Rattle.wide_walk.specs.WideWalk.{Tally, opened, spent, walk, mostSteps, countsOf, endingAt, conclude, begun, ended, solved, patternOf, Ended}
 use Rattle.pattern.proofs.Moving.{listed-found, stood-at, room-at}
-use Rattle.wide_walk.proofs.Walked.{Sound, sound-start, sound-turn, sound-end, Ended, end-ended}
+use Rattle.wide_walk.proofs.Walked.{Sound, sound-start, sound-turn, sound-end, end-ended}
 use Rattle.wide_meaning.specs.WideMeaning.{valueOf, answerOf, Means, NoZero, Given}
 use Rattle.wide_meaning.proofs.Holding.{begins}
 use Rattle.wide_meaning.proofs.Acting.{values-small, HoldsOf, acts}

@@ -23,10 +23,9 @@ use Rattle.pattern.proofs.Moving.{room-at, standing-so}
 use Rattle.algebra.specs.Wide.{IsFound, IsShort}
 use Rattle.wide_walk.specs.declared.WideEnding.{WideEnding}
 use Rattle.wide_walk.specs.declared.WideEnding.the-variants as E
-use Rattle.wide_walk.specs.WideWalk.{mostSteps, Solution, solved, patternOf}
+use Rattle.wide_walk.specs.WideWalk.{mostSteps, Solution, solved, patternOf, Ended}
 use Rattle.wide_meaning.specs.WideMeaning.{valueOf, Means, Given}
 use Rattle.wide_meaning.proofs.Meant.{meant}
-use Rattle.wide_walk.proofs.Walked.{Ended}
 use Rattle.verdict.specs.Told.{passed}
 use Rattle.verdict.specs.Calls.{gives, call}
 use Rattle.verdict.proofs.Passes.{unmet, right-length, two-passes, three-passes, twenty-one-passes, six-passes, nine-passes, exactly-passes, _and_}

@@ -21,8 +21,8 @@ use Rattle.pattern.specs.Pivots.{has, listed}
 use Rattle.pattern.specs.Next.{placed, counted as matches}
 use Rattle.pattern.proofs.Moving.{stepsOf, steps-after, few-pivots, standing-so}
 use Rattle.pattern.proofs.Enough.{enough, steps-few}
-use Rattle.wide_walk.specs.WideWalk.{Tally, walk, mostSteps, conclude, begun, ended, solved, patternOf}
-use Rattle.wide_walk.proofs.Walked.{Ended, stays}
+use Rattle.wide_walk.specs.WideWalk.{Tally, walk, mostSteps, conclude, begun, ended, solved, patternOf, Ended}
+use Rattle.wide_walk.proofs.Walked.{stays}
 use Rattle.verdict.specs.Told.{Told, passed}
 use Rattle.verdict.specs.Calls.{call}
 use Rattle.verdict.proofs.Passes.{unmet, right-length, two-passes, three-passes, twenty-one-passes}

@@ -19,8 +19,8 @@ use Rattle.pattern.specs.PatternList.{Sizes, maskCost, nonzeroCost, wanted}
 use Rattle.pattern.specs.Next.{startOf, movedOn, kept, stands}
 use Rattle.pattern.proofs.Standing.{kept-so, stands-so}
 use Rattle.pattern.proofs.Moving.{Standing, room-at}
-use Rattle.wide_walk.specs.WideWalk.{Tally, opened, acted, spent, walk, mostSteps, countsOf, endingAt, leaves, conclude, begun, ended}
-use Rattle.wide_walk.proofs.Walked.{Sound, sound-start, sound-step, Ended, stays}
+use Rattle.wide_walk.specs.WideWalk.{Tally, opened, acted, spent, walk, mostSteps, countsOf, endingAt, leaves, conclude, begun, ended, Ended}
+use Rattle.wide_walk.proofs.Walked.{Sound, sound-start, sound-step, stays}
 
 abbrev pub tally : WideProgress → Held → ℕ → Tally
 tally p h k = record { progress = p; left = h; steps = k }

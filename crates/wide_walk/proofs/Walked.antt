@@ -20,7 +20,7 @@ use Rattle.pattern.specs.Pivots.{rowOf, listed}
 use Rattle.pattern.specs.PatternList.{Sizes, patternList, sums, stepsBefore, takenAt}
 use Rattle.pattern.proofs.Placed.{Below}
 use Rattle.pattern.proofs.Moving.{Standing, stepsOf, standing-start, steps-after, standing-after, room-at, places-at}
-use Rattle.wide_walk.specs.WideWalk.{Tally, acted, openedAt, spent, walk, mostSteps, countsOf, endingAt, conclude, begun, ended, solved, patternOf, Counters}
+use Rattle.wide_walk.specs.WideWalk.{Tally, acted, openedAt, spent, walk, mostSteps, countsOf, endingAt, conclude, begun, ended, solved, patternOf, Counters, Ended}
 
 -- row k of a step is one of the table's
 pub other-row : (rows r : ℕ) (s : Step) → Below rows r s → OtherRow rows s
@@ -36,11 +36,6 @@ pub record Sound (o : WideOrder) (t : Tally) : Type 0 where
   pub steps : t .steps ≡ length (stepsOf o (t .progress))
   pub table : length (t .left .table) ≡ tableBytes (o .shares) (o .rows) (o .columns + 1)
   pub places : length (t .left .solution) ≡ o .columns
-
-abbrev pub Ended : WidePlace → Type 0
-Ended (At s) = ⊥
-Ended Short = Unit
-Ended Done = Unit
 
 module _ (o : WideOrder) (z : Sizes o) where
   pub sound-start : (h : Held) → length (h .table) ≡ tableBytes (o .shares) (o .rows) (o .columns + 1) → length (h .solution) ≡ o .columns

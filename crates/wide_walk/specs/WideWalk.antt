@@ -27,6 +27,12 @@ opened o ps s ds h = stepOpens (o .field) (o .shares) (o .columns + 1) (rowOf ps
 unfoldable pub acted : WideOrder → List ℕ → Step → List ℕ → List ℕ → Held → Held
 acted o ps s ds nz h = stepLeaves (o .field) (o .shares) (o .columns + 1) (rowOf ps (columnOf s)) s ds nz h
 
+-- a place at which a run has ended
+abbrev pub Ended : WidePlace → Type 0
+Ended (P.At s) = ⊥
+Ended P.Short = Unit
+Ended P.Done = Unit
+
 -- a solve under way: its record, what was lent, and the steps taken
 pub record Tally : Type 0 where
   pub progress : WideProgress

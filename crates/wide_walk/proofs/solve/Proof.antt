@@ -11,8 +11,7 @@ use Rattle.pattern.specs.Next.{startOf}
 use Rattle.pattern.proofs.Counting.{wanted-few}
 use Rattle.pattern.proofs.Moving.{standing-so}
 use Rattle.walk.specs.Act.{held}
-use Rattle.wide_walk.specs.WideWalk.{mostSteps, conclude, ended, solved}
-use Rattle.wide_walk.proofs.Walked.{Ended}
+use Rattle.wide_walk.specs.WideWalk.{mostSteps, conclude, ended, solved, Ended}
 use Rattle.wide_walk.proofs.Going.{Going, tally, begin, room, moved, halted, tests, most-few, concluded, wiped}
 use borrow.Author.Needs.{needs}
 use Rattle.wide_walk.proofs.solve.Statement.{statement}
