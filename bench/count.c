@@ -4,8 +4,8 @@
  *     count PROGRAM [SIZE..]
  *
  * PROGRAM holds the library, the model, the C solves and M4RIE if that is installed; it
- * is emulated. Where sizes are given, only those are counted, and nothing is set against
- * document 001. */
+ * is emulated. A size is that of a square system, or ROWSxCOLUMNS for a wide one. Where
+ * sizes are given, only those are counted, and nothing is set against document 001. */
 #include "hostozaro.h"
 #include "model.h"
 #include "x86.h"
@@ -16,15 +16,19 @@
 #include <stdlib.h>
 #include <string.h>
 
-#define MAX_TABLE (96 * 97 * 4)
-#define MAX_MASK 3820512 /* F256, n = 4, m = 96 */
+#define MAX_ENTRIES (96 * 145)
+#define MAX_TABLE (MAX_ENTRIES * 4)
+#define MAX_MASK 12528144 /* wide, n = 4, 96 rows, 144 columns */
 
 static x86 *machine;
 
-/* One system with its tapes, and what a solve must leave. */
-static uint64_t field, n, m, counts[4], wanted_answer[4];
-static size_t table_len, mask_len, nonzero_len;
-static uint8_t values[96 * 97], table[MAX_TABLE], mask[MAX_MASK], nonzero[96 * 3], wanted[MAX_TABLE], wanted_x[96];
+/* One system with its tapes, and what a solve must leave. A square one has as many columns
+ * as rows. */
+static uint64_t field, n, rows, columns, wanted_answer[4];
+static bool wide;
+static size_t entries, table_len, mask_len, nonzero_len;
+static uint8_t values[MAX_ENTRIES], table[MAX_TABLE], mask[MAX_MASK], nonzero[96 * 3], wanted[MAX_TABLE];
+static uint8_t wanted_x[144];
 
 static uint8_t any(void)
 {
@@ -33,48 +37,90 @@ static uint8_t any(void)
     return (uint8_t)(state >> 56);
 }
 
-/* A system that has one solution. */
-static void make_system(uint64_t new_field, uint64_t new_n, uint64_t new_m)
+/* Lengths and tapes; mask_len is set before. */
+static void make_tapes(void)
 {
-    field = new_field, n = new_n, m = new_m;
-    model_counts(field, n, m, counts, 4);
-    table_len = m * (m + 1) * n, mask_len = counts[1], nonzero_len = counts[2];
+    entries = rows * (columns + 1);
+    table_len = entries * n, nonzero_len = rows * (n - 1);
     for (size_t i = 0; i < mask_len; i++)
         mask[i] = any();
     for (size_t i = 0; i < nonzero_len; i++)
         do
             nonzero[i] = any();
         while (nonzero[i] % field == 0);
-    do {
-        for (size_t e = 0; e < m * (m + 1); e++) {
-            values[e] = table[e * n] = (uint8_t)(any() % field);
-            for (size_t s = 1; s < n; s++) {
-                table[e * n + s] = (uint8_t)(any() % field);
-                table[e * n] ^= table[e * n + s];
-            }
+}
+
+static void make_values(void)
+{
+    for (size_t e = 0; e < entries; e++)
+        values[e] = (uint8_t)(any() % field);
+}
+
+static void deal(void)
+{
+    for (size_t e = 0; e < entries; e++) {
+        table[e * n] = values[e];
+        for (size_t s = 1; s < n; s++) {
+            table[e * n + s] = (uint8_t)(any() % field);
+            table[e * n] ^= table[e * n + s];
         }
-        memcpy(wanted, table, table_len);
+    }
+    memcpy(wanted, table, table_len);
+}
+
+/* A square system that has one solution. */
+static void make_system(uint64_t new_field, uint64_t new_n, uint64_t m)
+{
+    field = new_field, n = new_n, rows = columns = m, wide = false;
+    mask_len = model_full_mask_draws(field, n, m);
+    make_tapes();
+    do {
+        make_values();
+        deal();
     } while (model_solve(field, n, m, wanted, table_len, wanted_x, m, mask, mask_len, nonzero, nonzero_len,
                          wanted_answer, 4) != HZ_SOLVED);
+}
+
+/* A wide system with a pivot in every row, which passes so many columns over: those that
+ * follow every tenth one double the column before them. */
+static void make_wide_system(uint64_t new_n, uint64_t new_rows, uint64_t new_columns, uint64_t passed_over)
+{
+    uint64_t pivots[96];
+    field = 16, n = new_n, rows = new_rows, columns = new_columns, wide = true;
+    mask_len = model_wide_mask_draws(n, rows, columns);
+    make_tapes();
+    do {
+        make_values();
+        for (uint64_t r = 0; r < rows; r++)
+            for (uint64_t i = 1; i <= passed_over; i++) {
+                uint8_t *entry = values + r * (columns + 1) + 10 * i;
+                *entry = model_times(16, 2, entry[-1]);
+            }
+    } while (model_wide_plain(rows, columns, values, pivots, wanted_x) < rows
+             || pivots[rows - 1] != rows + passed_over);
+    deal();
+    model_wide_solve(16, n, rows, columns, wanted, table_len, wanted_x, columns, mask, mask_len, nonzero, nonzero_len,
+                     wanted_answer, 4);
 }
 
 static void compare(const char *name, const void *got, const void *want, size_t len)
 {
     if (memcmp(got, want, len) == 0)
         return;
-    printf("%s differs from the model: field %" PRIu64 " shares %" PRIu64 " size %" PRIu64 "\n", name, field, n, m);
+    printf("%s differs from the model: field %" PRIu64 " shares %" PRIu64 " rows %" PRIu64 " columns %" PRIu64 "\n",
+           name, field, n, rows, columns);
     exit(1);
 }
 
 /* What the functions are lent, as addresses in the machine. */
 static uint64_t at_table, at_values, at_x, at_mask, at_nonzero, at_answer;
-static const uint64_t empty[96];
+static const uint8_t empty[144];
 
 static void lend(void)
 {
     x86_reset(machine);
     at_table = x86_lend(machine, table, table_len);
-    at_x = x86_lend(machine, empty, m);
+    at_x = x86_lend(machine, empty, columns);
     at_mask = x86_lend(machine, mask, mask_len);
     at_nonzero = x86_lend(machine, nonzero, nonzero_len);
     at_answer = x86_lend(machine, empty, 32);
@@ -82,9 +128,9 @@ static void lend(void)
 
 static void compare_solution(const char *name)
 {
-    uint8_t x[96];
-    x86_take(machine, at_x, x, m);
-    compare(name, x, wanted_x, m);
+    uint8_t x[144];
+    x86_take(machine, at_x, x, columns);
+    compare(name, x, wanted_x, columns);
 }
 
 static void compare_results(const char *name)
@@ -95,8 +141,13 @@ static void compare_results(const char *name)
     compare_solution(name);
 }
 
-static uint64_t whole(const char *name, const uint64_t *arguments, size_t count)
+/* A whole solve: field, shares and sizes, and after them what is lent. */
+static uint64_t whole(const char *name, const uint64_t *lent, size_t count)
 {
+    uint64_t arguments[14] = {field, n, rows, columns};
+    size_t numbers = wide ? 4 : 3;
+    memcpy(arguments + numbers, lent, count * sizeof *lent);
+    count += numbers;
     uint64_t answer[4], code = x86_call(machine, name, arguments, count), solved = HZ_SOLVED;
     compare(name, &code, &solved, sizeof code);
     x86_take(machine, at_answer, answer, sizeof answer);
@@ -105,44 +156,50 @@ static uint64_t whole(const char *name, const uint64_t *arguments, size_t count)
     return machine->counted;
 }
 
-/* hz_solve and model_solve: each buffer with its length. */
+/* The library's and the model's: each buffer with its length. */
 static uint64_t with_lengths(const char *name)
 {
     lend();
     return whole(name,
-                 (uint64_t[]){field, n, m, at_table, table_len, at_x, m, at_mask, mask_len, at_nonzero, nonzero_len,
+                 (uint64_t[]){at_table, table_len, at_x, columns, at_mask, mask_len, at_nonzero, nonzero_len,
                               at_answer, 4},
-                 13);
+                 10);
 }
 
 /* Those of solves.h. */
 static uint64_t without_lengths(const char *name)
 {
     lend();
-    return whole(name, (uint64_t[]){field, n, m, at_table, at_x, at_mask, at_nonzero, at_answer}, 8);
+    return whole(name, (uint64_t[]){at_table, at_x, at_mask, at_nonzero, at_answer}, 5);
 }
 
 /* All the single steps together. */
 static uint64_t single_steps(void)
 {
-    uint64_t record[HZ_RECORD_WORDS] = {0}, sum, code;
+    static const uint64_t no_record[HZ_WIDE_RECORD_WORDS];
+    const char *step = wide ? "hz_wide_step" : "hz_step";
+    uint64_t record[HZ_WIDE_RECORD_WORDS], words = wide ? HZ_WIDE_RECORD_WORDS : HZ_RECORD_WORDS, sum, code;
     lend();
-    uint64_t at_record = x86_lend(machine, record, sizeof record);
-    x86_call(machine, "hz_start", (uint64_t[]){field, n, m, at_record, HZ_RECORD_WORDS, at_answer, 4}, 7);
+    uint64_t at_record = x86_lend(machine, no_record, words * sizeof *no_record);
+    if (wide)
+        x86_call(machine, "hz_wide_start", (uint64_t[]){field, n, rows, columns, at_record, words, at_answer, 4}, 8);
+    else
+        x86_call(machine, "hz_start", (uint64_t[]){field, n, rows, at_record, words, at_answer, 4}, 7);
     sum = machine->counted;
     do {
-        x86_take(machine, at_record, record, sizeof record);
-        uint64_t masks = model_mask_draws(field, n, m, record[HZ_STEP], record[HZ_J]);
-        uint64_t nonzeros = model_nonzero_draws(n, record[HZ_STEP]);
-        code = x86_call(machine, "hz_step",
-                        (uint64_t[]){at_record, HZ_RECORD_WORDS, at_table, table_len, at_x, m, at_mask, masks,
-                                     at_nonzero, nonzeros, at_answer, 4},
+        x86_take(machine, at_record, record, words * sizeof *record);
+        uint64_t kind = record[wide ? HZ_WIDE_STEP : HZ_STEP];
+        uint64_t masks = model_mask_draws(field, n, columns, kind, record[wide ? HZ_WIDE_J : HZ_J]);
+        uint64_t nonzeros = model_nonzero_draws(n, kind);
+        code = x86_call(machine, step,
+                        (uint64_t[]){at_record, words, at_table, table_len, at_x, columns, at_mask, masks, at_nonzero,
+                                     nonzeros, at_answer, 4},
                         12);
         sum += machine->counted;
         at_mask += masks;
         at_nonzero += nonzeros;
     } while (code == HZ_MOVED || code == HZ_OPENED);
-    compare_results("hz_step");
+    compare_results(step);
     return sum;
 }
 
@@ -151,15 +208,15 @@ static uint64_t single_steps(void)
 static void lend_values(void)
 {
     x86_reset(machine);
-    at_values = x86_lend(machine, values, m * (m + 1));
-    at_x = x86_lend(machine, wanted, m);
+    at_values = x86_lend(machine, values, entries);
+    at_x = x86_lend(machine, wanted, rows);
     at_answer = x86_lend(machine, wanted, 32);
 }
 
 static uint64_t plain_c(void)
 {
     lend_values();
-    x86_call(machine, "plain_solve", (uint64_t[]){field, m, at_values, at_x}, 4);
+    x86_call(machine, "plain_solve", (uint64_t[]){field, rows, at_values, at_x}, 4);
     compare_solution("plain_solve");
     return machine->counted;
 }
@@ -167,15 +224,15 @@ static uint64_t plain_c(void)
 static uint64_t plain_engine(void)
 {
     uint64_t answer[4], solved = HZ_SOLVED;
-    uint8_t after[96 * 97];
+    uint8_t after[MAX_ENTRIES];
     lend_values();
     uint64_t code = x86_call(machine, "hz_plain",
-                             (uint64_t[]){field, m, at_values, m * (m + 1), at_x, m, at_answer, 4}, 8);
+                             (uint64_t[]){field, rows, at_values, entries, at_x, rows, at_answer, 4}, 8);
     compare("hz_plain", &code, &solved, sizeof code);
     x86_take(machine, at_answer, answer, sizeof answer);
     compare("hz_plain", answer, empty, sizeof answer);
-    x86_take(machine, at_values, after, m * (m + 1));
-    compare("hz_plain", after, values, m * (m + 1));
+    x86_take(machine, at_values, after, entries);
+    compare("hz_plain", after, values, entries);
     compare_solution("hz_plain");
     return machine->counted;
 }
@@ -200,14 +257,14 @@ static m4rie_counts m4rie(void)
     uint64_t at_thread = x86_lend(machine, empty, 64);
     uc_reg_write(machine->uc, UC_X86_REG_FS_BASE, &at_thread);
     x86_call(machine, "m4rie_open", &field, 1);
-    x86_call(machine, "m4rie_fill", (uint64_t[]){m, at_values}, 2);
+    x86_call(machine, "m4rie_fill", (uint64_t[]){rows, at_values}, 2);
     counted.solve = machine->counted;
     uint64_t rank = x86_call(machine, "m4rie_reduce", NULL, 0);
     counted.echelon_form = machine->counted;
     x86_call(machine, "m4rie_take", &at_x, 1);
     counted.solve += counted.echelon_form + machine->counted;
     x86_call(machine, "m4rie_close", NULL, 0);
-    compare("M4RIE's rank", &rank, &m, sizeof rank);
+    compare("M4RIE's rank", &rank, &rows, sizeof rank);
     compare_solution("M4RIE");
     return counted;
 }
@@ -227,8 +284,19 @@ static void print_row(void)
     uint64_t library = with_lengths("hz_solve"), steps = single_steps(), straight = with_lengths("model_solve");
     uint64_t best = without_lengths("best_solve"), ordered = without_lengths("ordered_solve");
     printf("| F%" PRIu64 " | %" PRIu64 " | %" PRIu64 " | %.3f | %.3f | %.3f | %.3f | %.3f | %.2f | %.2f | %.2f | %.2f |\n", field, n,
-           m, millions(library), millions(straight), millions(best), millions(ordered), millions(steps),
+           rows, millions(library), millions(straight), millions(best), millions(ordered), millions(steps),
            over(library, straight), over(library, best), over(library, ordered), over(steps, library));
+    fflush(stdout);
+}
+
+static void print_wide_row(uint64_t passed_over)
+{
+    uint64_t library = with_lengths("hz_wide_solve"), steps = single_steps();
+    uint64_t best = without_lengths("best_wide_solve"), ordered = without_lengths("ordered_wide_solve");
+    printf("| %" PRIu64 "x%" PRIu64 " | %" PRIu64 " | %" PRIu64 " | %" PRIu64
+           " | %.3f | %.3f | %.3f | %.3f | %.2f | %.2f | %.2f |\n",
+           rows, columns, passed_over, n, wanted_answer[1], millions(library), millions(best), millions(ordered),
+           millions(steps), over(library, best), over(library, ordered), over(steps, library));
     fflush(stdout);
 }
 
@@ -247,7 +315,7 @@ static void print_plain_row(bool beside_m4rie)
 {
     uint64_t engine = plain_engine(), c = plain_c();
     m4rie_counts its = beside_m4rie ? m4rie() : (m4rie_counts){0};
-    printf("| F%" PRIu64 " | %" PRIu64 " | %.3f | %.3f | %.2f |", field, m, millions(engine), millions(c),
+    printf("| F%" PRIu64 " | %" PRIu64 " | %.3f | %.3f | %.2f |", field, rows, millions(engine), millions(c),
            over(engine, c));
     if (beside_m4rie)
         printf(" %.3f | %.3f | %.2f | %.2f |", millions(its.solve), millions(its.echelon_form),
@@ -267,6 +335,26 @@ static void print_masked(char **sizes, int count)
                 make_system(f, shares, strtoull(sizes[i], NULL, 10));
                 print_row();
             }
+}
+
+static void print_wide_rows(uint64_t r, uint64_t c, uint64_t passed_over)
+{
+    for (uint64_t shares = 2; shares <= 4; shares++) {
+        make_wide_system(shares, r, c, passed_over);
+        print_wide_row(passed_over);
+    }
+}
+
+static void print_wide(char **sizes, int count)
+{
+    printf("\n| F16, wide | passed over | n | mask draws | library | best C | ordered C | single steps "
+           "| library / best | library / ordered | steps / library |\n"
+           "|---|---|---|---|---|---|---|---|---|---|---|\n");
+    for (int i = 0; i < count; i++) {
+        char *x;
+        uint64_t r = strtoull(sizes[i], &x, 10);
+        print_wide_rows(r, strtoull(x + 1, NULL, 10), 0);
+    }
 }
 
 static void print_beside_001(void)
@@ -298,13 +386,25 @@ int main(int argc, char **argv)
     if (argc < 2)
         return 2;
     machine = x86_open(argv[1]);
-    if (argc > 2) {
-        print_masked(argv + 2, argc - 2);
-        print_plain(argv + 2, argc - 2);
-    } else {
+    char *squares[argc], *wides[argc];
+    int square_count = 0, wide_count = 0;
+    for (int i = 2; i < argc; i++)
+        if (strchr(argv[i], 'x') == NULL)
+            squares[square_count++] = argv[i];
+        else
+            wides[wide_count++] = argv[i];
+    if (argc == 2) {
         print_masked((char *[]){"16", "44", "96"}, 3);
         print_beside_001();
         print_plain((char *[]){"44", "96"}, 2);
+        print_wide((char *[]){"64x72", "96x110", "96x144"}, 3);
+        print_wide_rows(96, 144, 8);
     }
+    if (square_count > 0) {
+        print_masked(squares, square_count);
+        print_plain(squares, square_count);
+    }
+    if (wide_count > 0)
+        print_wide(wides, wide_count);
     return 0;
 }

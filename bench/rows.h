@@ -321,24 +321,27 @@ static outcome run_256_2(work *t, bool wide, uint8_t *solution) { return run_lis
 static outcome run_256_3(work *t, bool wide, uint8_t *solution) { return run_list(t, 8, 3, wide, solution); }
 static outcome run_256_4(work *t, bool wide, uint8_t *solution) { return run_list(t, 8, 4, wide, solution); }
 
-static void take_table(work *t, size_t n, const uint8_t *table)
+/* Copies here too: *t could change with the bytes. */
+static void take_table(const work *t, size_t n, const uint8_t *table)
 {
-    size_t width = t->columns + 1;
-    for (size_t r = 0; r < t->rows; r++)
+    const size_t rows = t->rows, width = t->columns + 1;
+    planes *const to = t->row;
+    for (size_t r = 0; r < rows; r++)
         for (size_t s = 0; s < n; s++) {
             for (size_t c = 0; c < width; c++)
-                t->row[r][s][c] = table[(r * width + c) * n + s];
-            memset(t->row[r][s] + width, 0, BEYOND);
+                to[r][s][c] = table[(r * width + c) * n + s];
+            memset(to[r][s] + width, 0, BEYOND);
         }
 }
 
 static void give_table(const work *t, size_t n, uint8_t *table)
 {
-    size_t width = t->columns + 1;
-    for (size_t r = 0; r < t->rows; r++)
+    const size_t rows = t->rows, width = t->columns + 1;
+    planes *const from = t->row;
+    for (size_t r = 0; r < rows; r++)
         for (size_t c = 0; c < width; c++)
             for (size_t s = 0; s < n; s++)
-                table[(r * width + c) * n + s] = t->row[r][s][c];
+                table[(r * width + c) * n + s] = from[r][s][c];
 }
 
 /* As hz_wide_solve answers where it is wide, and else as hz_solve. */
