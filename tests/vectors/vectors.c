@@ -32,12 +32,12 @@ static task made_up(uint64_t seed, uint64_t field, uint64_t n, uint64_t m)
     for (size_t i = 0; i < sizeof table; i++)
         table[i] = (uint8_t)some((unsigned)field);
     memset(solution, 0xee, sizeof solution);
-    return (task){field, n, m, table, {mask, 0}, {nonzero, 0}};
+    return (task){field, n, m, m, table, {mask, 0}, {nonzero, 0}};
 }
 
 static size_t entries(const task *t)
 {
-    return t->m * (t->m + 1);
+    return t->rows * (t->columns + 1);
 }
 
 /* Gives entry e, from 0, the value v by its last share. */
@@ -94,7 +94,7 @@ static void nonzero_draws(const task *t)
 
 static void order(const task *t)
 {
-    printf(" (order %u %u %u)", (unsigned)t->field, (unsigned)t->n, (unsigned)t->m);
+    printf(" (order %u %u %u)", (unsigned)t->field, (unsigned)t->n, (unsigned)t->rows);
 }
 
 /* ---- The small rules ---- */
@@ -214,7 +214,7 @@ static void left(const task *t, int count, const uint64_t *numbers)
         printf("%u ∷ ", (unsigned)numbers[i]);
     printf("[])");
     whole(t, table);
-    bytes(solution, t->m, 1);
+    bytes(solution, t->columns, 1);
     printf(")\n");
 }
 
