@@ -2,7 +2,7 @@
 -- end. So the draws taken so far grow by the step's own, and are the whole sum when all is done.
 -- Assumes nothing.
 use mathlib.Core.Bool.{Bool, true, false}
-use mathlib.Core.List.{List, [], _∷_, _++_, append-assoc, append-nil}
+use mathlib.Core.List.{List, [], _∷_, _++_, List·Memᴰ, List·Memᴰ·head, List·Memᴰ·tail, append-assoc, append-nil}
 use mathlib.Core.Path.{_≡_, refl, sym, ap, _∙_}
 use Prim.Native.Nat.{ℕ, zero, suc, _<_, _≤_, _+_, _-_, _*_}
 use native.Mathlib.Omega.{arith}
@@ -16,11 +16,12 @@ use Rattle.course.specs.declared.Step.the-variants.{Mix, Check, Scale, C
 use Rattle.course.specs.declared.Place.{Place}
 use Rattle.course.specs.declared.Place.the-variants.{At, Stopped, Done}
 use Rattle.course.specs.declared.Order.{Order}
-use Rattle.course.specs.StepList.{each, column, columns, openings, stepList, upTo, inList, draws, maskCost, nonzeroCost, sumOver}
+use Rattle.course.specs.StepList.{each, column, columns, openings, stepList, upTo, inList, draws, maskCost, nonzeroCost, sumOver, fullMask, fullNonzero}
 use Rattle.course.specs.Taken.{beforeStep, stepsBefore, takenAt}
-use Rattle.course.specs.Next.{firstOf, following}
-use Rattle.course.proofs.Within.{within}
-use Rattle.course.proofs.Chain.{columns-split, check-last}
+use Rattle.course.specs.Next.{firstOf, following, Chain}
+use Rattle.course.proofs.Within.{within, column-in}
+use Rattle.course.proofs.Members.{AllIn, all-in, listed}
+use Rattle.course.proofs.Chain.{chain, columns-split, check-last}
 use Rattle.course.proofs.Sums.{openings-length, sum-append}
 use Rattle.course.proofs.Along.{either}
 
@@ -141,6 +142,24 @@ module _ (m : ℕ) where
       let two : 2 * (m - (j - 1)) ≡ 2 * (m - j) + 2 = omega arith in
       rw (two, lift-next (m - j) m j (omega arith) (w .0)) (simp append-assoc)
 
+  -- from place p, with the steps a before it, the list goes on with l: what comes before a step of l is a, and what of l comes first
+  met : (s : Step) (p : Place) (a l : List Step) → Chain m p l Done → AllIn m l → stepsBefore m p ≡ a → List·Memᴰ s l
+      → (rest : List Step) × (a ++ l ≡ beforeStep m s ++ (s ∷ rest))
+  unfolding stepsBefore
+  met s p a (t ∷ l) c i e (List·Memᴰ·head h) =
+      let b : beforeStep m s ≡ a = rw h (sym (ap (stepsBefore m) (c .0)) ∙ e) in
+      (l, rw (b, h))
+  met s p a (t ∷ l) c i e (List·Memᴰ·tail d) =
+      let b : stepsBefore m (At t) ≡ a = sym (ap (stepsBefore m) (c .0)) ∙ e in
+      let n = met s (following m t 0) (a ++ (t ∷ [])) l (c .1) (i .1) (added t 0 (i .0) ∙ ap (λ k. k ++ (t ∷ [])) b) d in
+      (n .0, sym (append-assoc a (t ∷ []) l) ∙ n .1)
+
+  -- so the list is what comes before a step, the step, and a rest
+  pub split : (s : Step) → inList m s ≡ true → (rest : List Step) × (stepList m ≡ beforeStep m s ++ (s ∷ rest))
+  split s h =
+      let w = column-in m s (within m s h) in
+      met s (firstOf m 1) [] (stepList m) (chain m (omega arith)) (all-in m) none-first (listed m s h)
+
 module _ (o : Order) where
   -- nothing is taken before the first place
   pub taken-first : takenAt o (firstOf (o .size) 1) ≡ draws 0 0
@@ -156,3 +175,13 @@ module _ (o : Order) where
       let y : sumOver (maskCost o) (a ++ (s ∷ [])) ≡ sumOver (maskCost o) a + maskCost o s = omega (arith, sum-append (maskCost o) a (s ∷ [])) in
       let z : sumOver (nonzeroCost o) (a ++ (s ∷ [])) ≡ sumOver (nonzeroCost o) a + nonzeroCost o s = omega (arith, sum-append (nonzeroCost o) a (s ∷ [])) in
       rw (added (o .size) s x h, y, z)
+
+  -- and no more than the whole list takes
+  pub taken-few : (s : Step) → inList (o .size) s ≡ true
+      → (takenAt o (At s) .mask + maskCost o s ≤ fullMask o) × (takenAt o (At s) .nonzero + nonzeroCost o s ≤ fullNonzero o)
+  unfolding takenAt stepsBefore sumOver
+  taken-few s h =
+      let k = split (o .size) s h in
+      let a = beforeStep (o .size) s in
+      rw (k .1)
+      (omega (arith, sum-append (maskCost o) a (s ∷ k .0)), omega (arith, sum-append (nonzeroCost o) a (s ∷ k .0)))

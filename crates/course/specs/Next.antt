@@ -5,7 +5,7 @@ use mathlib.Core.Bool.{Bool, _&&_}
 use mathlib.Core.List.{List, [], _∷_}
 use mathlib.Core.Path.{_≡_}
 use Prim.Native.Nat.{ℕ, _+_, _-_}
-use lib.Dec.{ltb, leb, eqb}
+use lib.Dec.{ltb, eqb}
 use Rattle.field.specs.Field.{pick}
 use Rattle.course.specs.declared.Step.{Step}
 use Rattle.course.specs.declared.Step.the-variants.{Mix, Check, Scale, Clear, Open, Lift}
@@ -13,7 +13,7 @@ use Rattle.course.specs.declared.Place.{Place}
 use Rattle.course.specs.declared.Place.the-variants.{At, Stopped, Done}
 use Rattle.course.specs.declared.Order.{Order}
 use Rattle.course.specs.declared.Progress.{Progress}
-use Rattle.course.specs.StepList.{sized, inList, maskCost, nonzeroCost}
+use Rattle.course.specs.StepList.{maskCost, nonzeroCost}
 use Rattle.course.specs.Taken.{takenAt}
 
 -- the first place of column j: there is no Mix in the last column
@@ -37,30 +37,11 @@ recordAt o place mask nonzero =
 abbrev pub orderOf : Progress → Order
 orderOf p = record { field = p .field; shares = p .shares; size = p .size }
 
--- a counter and a step's draws together, in 64 bits
-unfoldable pub fits : ℕ → ℕ → Bool
-fits taken draws = leb (taken + draws) 18446744073709551615
-
--- a record moves on from a step of the list of an order that is taken, where its counters have room for the step's draws
-unfoldable pub moves : Progress → Step → Bool
-moves p s =
-    let o = orderOf p in
-    (sized o && inList (o .size) s) && (fits (p .mask) (maskCost o s) && fits (p .nonzero) (nonzeroCost o s))
-
 -- moved on from step s, which opened x: the step's draws are added
 abbrev pub movedOn : Progress → Step → ℕ → Progress
 movedOn p s x =
     let o = orderOf p in
     recordAt o (following (o .size) s x) (p .mask + maskCost o s) (p .nonzero + nonzeroCost o s)
-
-abbrev pub nextFrom : Progress → Place → ℕ → Progress
-nextFrom p (At s) x = pick (moves p s) (movedOn p s x) p
-nextFrom p (Stopped j) x = p
-nextFrom p Done x = p
-
--- the record at the following place; any other record stays as it is
-unfoldable pub nextOf : Progress → ℕ → Progress
-nextOf p x = nextFrom p (p .place) x
 
 -- a fresh record: nothing is taken yet
 unfoldable pub startOf : Order → Progress

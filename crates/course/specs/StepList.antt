@@ -1,11 +1,11 @@
 -- 01, "The step list", with R-7's Lift: the list of a size, the draws of each step of it and what it opens, and sums over lists of steps.
 -- Assumes nothing.
-use mathlib.Core.Bool.{Bool, _&&_, _||_}
+use mathlib.Core.Bool.{Bool, _&&_}
 use mathlib.Core.List.{List, [], _∷_, _++_}
 use mathlib.Core.Logic.{_⊎_}
 use mathlib.Core.Path.{_≡_}
 use Prim.Native.Nat.{ℕ, zero, suc, _+_, _-_, _≤_}
-use lib.Dec.{ltb, leb, eqb}
+use lib.Dec.{ltb, leb}
 use lib.ListN.{length}
 use Rattle.sharing.specs.Bounds.{mostRows}
 use Rattle.table.specs.Layout.{columnsFrom}
@@ -23,11 +23,6 @@ pub record Sizes (o : Order) : Type 0 where
   pub four : o .shares ≤ 4
   pub some : 1 ≤ o .size
   pub most : o .size ≤ mostRows
-
--- the same as a test
-unfoldable pub sized : Order → Bool
-sized o =
-    (eqb (o .field) 16 || eqb (o .field) 256) && ((leb 2 (o .shares) && leb (o .shares) 4) && (leb 1 (o .size) && leb (o .size) mostRows))
 
 -- step a, step (a + 1), .., n of them
 unfoldable pub each : (ℕ → Step) → ℕ → ℕ → List Step

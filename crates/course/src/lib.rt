@@ -1,12 +1,10 @@
 // The course of a solve: the step list, the progress record and its next place, and what the steps draw. Stands on table, for the costs.
 ghost use mathlib.Core.Path.{_≡_};
 ghost use mathlib.Core.Bool.{true};
-ghost use mathlib.Core.Bool.{_&&_, _||_};
 ghost use Prim.Native.Nat.{_+_, _*_, _≤_};
-ghost use lib.Dec.{eqb, leb};
 ghost use Rattle.sharing.specs.Bounds.{mostRows, mostWidth, mostColumns};
-ghost use Rattle.course.specs.StepList.{Sizes, sized, inList, columnOf, costIn, costOf, stepList, sums};
-ghost use Rattle.course.specs.Next.{firstOf, following, orderOf, fits, nextOf, startOf};
+ghost use Rattle.course.specs.StepList.{Sizes, inList, columnOf, costIn, costOf, maskCost, nonzeroCost, stepList, sums};
+ghost use Rattle.course.specs.Next.{firstOf, following, orderOf, movedOn, startOf};
 ghost use Rattle.course.specs.Code.Closed.{flagsOver, rowsOver, partAt, partOf, Stands, Kept, weighed, maskOf, agrees};
 
 // One of the six steps with its j and k. Check, Scale, Open and Lift carry j only.
@@ -125,44 +123,6 @@ fn place_after(m: u64, s: Step, x: u8) -> Place
     }
 }
 
-fn is_field(q: u64) -> bool
-    ensures { λ r. ⌜ r ≡ eqb q 16 || eqb q 256 ⌝ }
-{
-    q == 16 || q == 256
-}
-
-fn is_between(low: u64, high: u64, x: u64) -> bool
-    ensures { λ r. ⌜ r ≡ leb low x && leb x high ⌝ }
-{
-    low <= x && x <= high
-}
-
-fn has_sizes(n: u64, m: u64) -> bool
-    ensures { λ r. ⌜ r ≡ (leb 2 n && leb n 4) && (leb 1 m && leb m mostRows) ⌝ }
-{
-    is_between(2, 4, n) && is_between(1, 96, m)
-}
-
-// Whether an order is one that is taken.
-fn is_sized(o: Order) -> bool
-    ensures { λ r. ⌜ r ≡ sized o ⌝ }
-{
-    is_field(o.field) && has_sizes(o.shares, o.size)
-}
-
-// Whether a step is one of the list of an order that is taken.
-fn is_listed(o: Order, s: Step) -> bool
-    ensures { λ r. ⌜ r ≡ sized o && inList (o .size) s ⌝ }
-{
-    is_sized(o) && in_list(o.size, s)
-}
-
-fn fits(taken: u64, draws: u64) -> bool
-    ensures { λ r. ⌜ r ≡ fits taken draws ⌝ }
-{
-    taken <= 18446744073709551615 - draws
-}
-
 impl Progress {
     // A fresh record.
     pub fn start(o: Order) -> Progress
@@ -189,40 +149,21 @@ impl Progress {
         }
     }
 
-    // Whether both counters have room for a step's draws.
-    fn has_room(self, mask: u64, nonzero: u64) -> bool
-        ensures { λ r. ⌜ r ≡ fits (self .mask) mask && fits (self .nonzero) nonzero ⌝ }
+    // The record at the following place, where step s at its place opened x: the step's draws are added to its counters.
+    pub fn next(self, s: Step, x: u8) -> Progress
+        requires { ⌜ Sizes (orderOf self) ⌝ }
+        requires { ⌜ inList (self .size) s ≡ true ⌝ }
+        requires { ⌜ (self .mask + maskCost (orderOf self) s ≤ 18446744073709551615) × (self .nonzero + nonzeroCost (orderOf self) s ≤ 18446744073709551615) ⌝ }
+        ensures { λ r. ⌜ r ≡ movedOn self s x ⌝ }
     {
-        fits(self.mask, mask) && fits(self.nonzero, nonzero)
-    }
-
-    // The record at the following place, where the step at its place opened x: the step's draws are added to its counters, whatever they are. A
-    // record stays that is at no step of the list of an order that is taken, or whose counters have no room for the draws.
-    pub fn next(self, x: u8) -> Progress
-        ensures { λ r. ⌜ r ≡ nextOf self x ⌝ }
-    {
-        let p = self.place;
-        let Place::At(s) = p else {
-            return self;
-        };
-        let o = self.order();
-        if !is_listed(o, s) {
-            return self;
-        }
-        let d = cost(o, s);
-        let mask = d.mask as u64;
-        let nonzero = d.nonzero as u64;
-        if self.has_room(mask, nonzero) {
-            Progress {
-                field: self.field,
-                shares: self.shares,
-                size: self.size,
-                place: place_after(self.size, s, x),
-                mask: self.mask + mask,
-                nonzero: self.nonzero + nonzero,
-            }
-        } else {
-            self
+        let d = cost(self.order(), s);
+        Progress {
+            field: self.field,
+            shares: self.shares,
+            size: self.size,
+            place: place_after(self.size, s, x),
+            mask: self.mask + d.mask as u64,
+            nonzero: self.nonzero + d.nonzero as u64,
         }
     }
 }

@@ -8,7 +8,7 @@ use Rattle.course.specs.declared.Place.{Place}
 use Rattle.course.specs.declared.Place.the-variants.{At, Stopped, Done}
 use Rattle.course.specs.declared.Progress.{Progress}
 use Rattle.course.specs.StepList.{revealedBy}
-use Rattle.course.specs.Next.{orderOf, nextOf}
+use Rattle.course.specs.Next.{orderOf, movedOn}
 use Rattle.walk.specs.declared.Ending.{Ending}
 use Rattle.walk.specs.Act.{Held, held, opened, acted}
 use Rattle.walk.specs.Walk.{Solution, leaves}
@@ -22,7 +22,7 @@ solve-done a e t x s g h = ap (λ (u : Says Ending). after u (held t x)) g ∙ a
 -- the step of a place: what it opens, leaves and tells, and the next place
 module _ (p : Progress) (place : Place) (h : Held) (mask nonzero : List ℕ) where
   pub step-done : (s : Step) (k : Held) (x : ℕ) (a : Says Stride) (n : Progress) → place ≡ At s → x ≡ opened (orderOf p) s mask h
-      → k ≡ acted (orderOf p) s mask nonzero h → a ≡ gives (tells (revealedBy s) x) → n ≡ nextOf p x → after a (lent n k) ≡ stepDoes p place h mask nonzero
+      → k ≡ acted (orderOf p) s mask nonzero h → a ≡ gives (tells (revealedBy s) x) → n ≡ movedOn p s x → after a (lent n k) ≡ stepDoes p place h mask nonzero
   unfolding stepDoes
   step-done s k x a n e opens leaves tells-so moves = rw (e, tells-so, moves, leaves, opens)
 

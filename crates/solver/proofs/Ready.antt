@@ -30,6 +30,7 @@ use Rattle.course.specs.Next.{orderOf, counted}
 use Rattle.course.specs.Code.Closed.{partOf, Stands, agrees}
 use Rattle.course.proofs.Within.{within}
 use Rattle.course.proofs.Closed.{mask-closed, nonzero-closed}
+use Rattle.course.proofs.Moving.{counted-room}
 use Rattle.walk.proofs.Acted.{pivot}
 use Rattle.verdict.specs.Told.{Told, passed, _or_}
 use Rattle.verdict.specs.Refusals.{outside, no4, no5, no6, no7, no9, buffers}
@@ -225,6 +226,14 @@ going p t x mask nonzero e =
 pub at-step : (o : Order) (place : Place) (s : Step) → place ≡ At s → placed (o .size) place ≡ true → inList (o .size) s ≡ true
 unfolding placed
 at-step o place s e h = rw e at h
+
+-- where a step call passed, its record can move on: its place is a step of the list, and its counters have room
+pub next-ready : (p : Progress) (t x : List ℕ) (mask : ℕ) (nonzero : List ℕ) → stepOrder p t x mask nonzero ≡ passed → (s : Step) → p .place ≡ At s
+    → Sizes (orderOf p) × ((inList (p .size) s ≡ true) × ((p .mask + maskCost (orderOf p) s ≤ 18446744073709551615) × (p .nonzero + nonzeroCost (orderOf p) s ≤ 18446744073709551615)))
+next-ready p t x mask nonzero v s e =
+    let g = going p t x mask nonzero v in
+    let i = at-step (orderOf p) (p .place) s e (g .at .listed) in
+    (g .sizes, (i, counted-room p s (g .sizes) e i (going-matched p t x mask nonzero v)))
 
 both-zero : (a b : ℕ) → (a ≡ 0 → b ≡ 0) → (b ≡ 0 → a ≡ 0) → eqb a 0 ≡ eqb b 0
 both-zero a b there back = elim (ℕ-discrete a 0) [

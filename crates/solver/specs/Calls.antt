@@ -12,7 +12,7 @@ use Rattle.course.specs.declared.Progress.{Progress}
 use Rattle.course.specs.declared.Counts.{Counts}
 use Rattle.course.specs.declared.Draws.{Draws}
 use Rattle.course.specs.StepList.{draws, Revealed, None, Flag, Pivot, Unknown, revealedBy, stepList, sums}
-use Rattle.course.specs.Next.{orderOf, nextOf, startOf}
+use Rattle.course.specs.Next.{orderOf, movedOn, startOf}
 use Rattle.walk.specs.declared.Ending.{Ending}
 use Rattle.walk.specs.declared.Ending.the-variants as E
 use Rattle.walk.specs.Act.{Held, held, opened, acted}
@@ -133,7 +133,7 @@ lent p h = record { progress = p; held = h }
 unfoldable pub stepDoes : Progress → Place → Held → List ℕ → List ℕ → Outcome Stride Lent
 stepDoes p (P.At s) h mask nonzero =
     let x = opened (orderOf p) s mask h in
-    after (gives (tells (revealedBy s) x)) (lent (nextOf p x) (acted (orderOf p) s mask nonzero h))
+    after (gives (tells (revealedBy s) x)) (lent (movedOn p s x) (acted (orderOf p) s mask nonzero h))
 stepDoes p (P.Stopped j) h mask nonzero = after (gives moved) (lent p h)
 stepDoes p P.Done h mask nonzero = after (gives moved) (lent p h)
 

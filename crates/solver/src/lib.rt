@@ -236,7 +236,7 @@ pub fn step(
             let x = walk::act(o, s, table, solution, mask, nonzero);
             Stepped {
                 answer: answer(s, x),
-                next: p.next(x),
+                next: p.next(s, x),
             }
         }
     }

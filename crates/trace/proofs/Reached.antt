@@ -14,15 +14,14 @@ use Rattle.course.specs.declared.Step.{Step}
 use Rattle.course.specs.declared.Place.{Place}
 use Rattle.course.specs.declared.Place.the-variants.{At, Done}
 use Rattle.course.specs.declared.Order.{Order}
-use Rattle.course.specs.declared.Progress.{Progress}
 use Rattle.course.specs.declared.Counts.{Counts}
 use Rattle.course.specs.StepList.{Sizes, maskCost, nonzeroCost, stepList, sumOver, sums}
-use Rattle.course.specs.Next.{firstOf, following, orderOf, movedOn, startOf, counted, Chain}
+use Rattle.course.specs.Next.{firstOf, following, startOf, counted, Chain}
 use Rattle.course.proofs.Within.{within}
 use Rattle.course.proofs.Chain.{unique, chain}
-use Rattle.course.proofs.Sums.{sum-append, mask-small, nonzero-small}
-use Rattle.course.proofs.Along.{either, resume, calm-resume, first-calm, resume-after, room-along, Along, start-along, turn-along}
-use Rattle.course.proofs.Moving.{moves-so, moves-on, start-counted, moved-counted}
+use Rattle.course.proofs.Sums.{sum-append}
+use Rattle.course.proofs.Along.{either, resume, calm-resume, first-calm, resume-after, Along, start-along, turn-along}
+use Rattle.course.proofs.Moving.{start-counted, moved-counted}
 use Rattle.walk.specs.Act.{held}
 use Rattle.walk.specs.Walk.{Tally, running, courseOf, spent, walk, fresh}
 use Rattle.trace.specs.Driving.{Beside, NoneZero, Begins, driveBy}
@@ -103,21 +102,6 @@ module _ (t x : List ℕ) (h : Host) (c : Beside) (s : Step) (sized : Sizes (ord
   abbrev h′ : Host
   h′ = stepped h c s
 
-  -- the whole list does not take so many draws that the counters have no room
-  moved : h′ .progress ≡ movedOn (h .progress) s u
-  moved =
-      let p = h .progress in
-      let r = room-along own (rw (a .place) at (g .along)) in
-      let i : p .mask + maskCost own s < 18446744073709551616 = omega (arith, r .1, g .recorded .mask, mask-small own sized) in
-      let j : p .nonzero + nonzeroCost own s < 18446744073709551616 = omega (arith, r .2, g .recorded .nonzero, nonzero-small own sized) in
-      moves-on p s u (a .place) (moves-so p s sized (a .listed) i j)
-
-  pub next : h′ .progress .place ≡ following (own .size) s u
-  next = ap (λ (p : Progress). p .place) moved
-
-  pub order-moved : orderIn h′ ≡ own
-  order-moved = ap orderOf moved
-
   mask-more : length (h .mask ++ c .mask) ≡ length (h .mask) + maskCost own s
   mask-more = length-append (h .mask) (c .mask) ∙ ap (λ (k : ℕ). length (h .mask) + k) (a .mask)
 
@@ -127,7 +111,7 @@ module _ (t x : List ℕ) (h : Host) (c : Beside) (s : Step) (sized : Sizes (ord
   whole-more : (rest : List Step) → Chain (own .size) (resume (h′ .progress .place)) rest Done
       → stepList (own .size) ≡ (g .steps ++ (s ∷ [])) ++ rest
   whole-more rest e =
-      let f : Chain (own .size) (following (own .size) s 0) rest Done = rw (next, resume-after (own .size) s u) at e in
+      let f : Chain (own .size) (following (own .size) s 0) rest Done = rw (resume-after (own .size) s u) at e in
       rw append-assoc (g .whole (s ∷ rest) (rw (a .place) (refl, f)))
 
   module _ (y ms zs : List ℕ) (places : length y ≡ own .size) (d : Begins (own .field) (h .mask ++ c .mask) ms) (e : Begins (own .field) (h .nonzero ++ c .nonzero) zs) where
@@ -141,7 +125,7 @@ module _ (t x : List ℕ) (h : Host) (c : Beside) (s : Step) (sized : Sizes (ord
       step-more =
           let dm = begins-back (own .field) (h .mask) (c .mask) d (a .mask) in
           let dz = begins-back (own .field) (h .nonzero) (c .nonzero) e (a .nonzero) in
-          rw (next, a .place, opened-own own (h .table) (a .table) s (a .listed) dm (h .solution) v, table-own own (h .table) (a .table) s (a .listed) dm dz (h .solution) v (same-read (own .size) s (a .listed) same), mask-more, nonzero-more)
+          rw (a .place, opened-own own (h .table) (a .table) s (a .listed) dm (h .solution) v, table-own own (h .table) (a .table) s (a .listed) dm dz (h .solution) v (same-read (own .size) s (a .listed) same), mask-more, nonzero-more)
 
       long-more : length after-solution ≡ own .size
       long-more = acted-places own s (drop (length (h .mask)) ms) (drop (length (h .nonzero)) zs) (held (h .table) v) ∙ long
@@ -150,7 +134,7 @@ module _ (t x : List ℕ) (h : Host) (c : Beside) (s : Step) (sized : Sizes (ord
       same-more : SameFrom (own .size) (knownFrom (own .size) (h′ .progress .place)) (h′ .solution) after-solution
       same-more =
           let dm = begins-back (own .field) (h .mask) (c .mask) d (a .mask) in
-          rw (next, acted-written own s (drop (length (h .mask)) ms) (drop (length (h .nonzero)) zs) (held (h .table) v), ← (opened-own own (h .table) (a .table) s (a .listed) dm (h .solution) v))
+          rw (acted-written own s (drop (length (h .mask)) ms) (drop (length (h .nonzero)) zs) (held (h .table) v), ← (opened-own own (h .table) (a .table) s (a .listed) dm (h .solution) v))
           (same-after (own .size) (h .solution) v (a .solution) long u s (a .listed) same)
 
     solve-more : (v : List ℕ)
@@ -172,19 +156,19 @@ module _ (t x : List ℕ) (h : Host) (c : Beside) (s : Step) (sized : Sizes (ord
   more : Reached own t x h′
   more =
       record {
-        along = rw (next, mask-more, nonzero-more) (turn-along own (rw (a .place) at (g .along)) u);
+        along = rw (mask-more, nonzero-more) (turn-along own (rw (a .place) at (g .along)) u);
         steps = g .steps ++ (s ∷ []);
         whole = whole-more;
         counts = rw (mask-more, nonzero-more) (sums-more own (g .steps) s (countsIn h) (g .counts));
         recorded =
             record {
-              mask = ap (λ (p : Progress). p .mask) moved ∙ ap (λ (k : ℕ). k + maskCost own s) (g .recorded .mask) ∙ sym mask-more;
-              nonzero = ap (λ (p : Progress). p .nonzero) moved ∙ ap (λ (k : ℕ). k + nonzeroCost own s) (g .recorded .nonzero) ∙ sym nonzero-more;
+              mask = ap (λ (k : ℕ). k + maskCost own s) (g .recorded .mask) ∙ sym mask-more;
+              nonzero = ap (λ (k : ℕ). k + nonzeroCost own s) (g .recorded .nonzero) ∙ sym nonzero-more;
             };
-        matched = rw moved (moved-counted (h .progress) s u (a .place) (a .listed) (g .matched));
-        firm = rw next (firm-after own (omega (arith, sized .two)) (c .mask) (c .nonzero) (lends h) (a .table) s (a .listed));
+        matched = moved-counted (h .progress) s u (a .place) (a .listed) (g .matched);
+        firm = firm-after own (omega (arith, sized .two)) (c .mask) (c .nonzero) (lends h) (a .table) s (a .listed);
         places = λ e. places-more;
-        fair = rw next (fair-after own (c .mask) (lends h) (a .solution) s (a .listed));
+        fair = fair-after own (c .mask) (lends h) (a .solution) s (a .listed);
         admitted = λ b.
             record {
               whole = acted-sized own s (within (own .size) s (a .listed)) (c .mask) (c .nonzero) (lends h) (a .table);
@@ -206,9 +190,7 @@ module _ (o : Order) (sized : Sizes o) (t x : List ℕ) where
       ⊎-elim (λ (r : Refused h c). rw (r .after) g)
       (λ (r : (s : Step) × Accepted h c s).
       rw (r .1 .after)
-      (let z = rw (← (g .order)) at sized in
-      let e = order-moved t x h c (r .0) z (r .1) (g .now) in
-      record { order = e ∙ g .order; now = rw e (more t x h c (r .0) z (r .1) (g .now)) }))
+      (record { order = g .order; now = more t x h c (r .0) (rw (← (g .order)) at sized) (r .1) (g .now) }))
       (each-call h c)
 
   steps : (h : Host) (cs : List Beside) → Run o t x h → Run o t x (drive h cs)

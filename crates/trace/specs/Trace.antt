@@ -17,7 +17,7 @@ use Rattle.course.specs.declared.Order.{Order}
 use Rattle.course.specs.declared.Progress.{Progress}
 use Rattle.course.specs.declared.Counts.{Counts}
 use Rattle.course.specs.StepList.{inList, maskCost, nonzeroCost, revealedBy, stepList, upTo, sums}
-use Rattle.course.specs.Next.{orderOf, nextOf, startOf, counted}
+use Rattle.course.specs.Next.{orderOf, movedOn, startOf, counted}
 use Rattle.walk.specs.declared.Ending.{Ending}
 use Rattle.walk.specs.declared.Ending.the-variants as E
 use Rattle.walk.specs.Act.{Held, held, opened, written, acted}
@@ -77,7 +77,7 @@ openedIn h c s = opened (orderIn h) s (c .mask) (lends h)
 abbrev pub stepped : Host → Beside → Step → Host
 stepped h c s =
     record {
-      progress = nextOf (h .progress) (openedIn h c s);
+      progress = movedOn (h .progress) s (openedIn h c s);
       table = acted (orderIn h) s (c .mask) (c .nonzero) (lends h) .table;
       solution = written (revealedBy s) (openedIn h c s) (h .solution);
       steps = h .steps + 1;

@@ -123,7 +123,7 @@ pub fn solve(o: Order, table: &mut [u8], solution: &mut [u8], mask: &[u8], nonze
         match q {
             Place::At(s) => {
                 let x = act(o, s, table, solution, &mask[at..], &nonzero[at2..]);
-                p = p.next(x);
+                p = p.next(s, x);
                 steps += 1;
             }
             Place::Stopped(j) => {

@@ -141,9 +141,7 @@ module _ (o : WideOrder) (sized : Sizes o) (same : o .columns ≡ o .rows) (t y 
           ∙ ap (λ (r : Order). A.acted r s (c .mask) (c .nonzero) (S.lends h)) (sym own-base)
 
       next-base : S.stepped h c s .progress .place ≡ Base.following (o .rows) s u
-      next-base =
-          R.next t y h c s (subst L.Sizes (sym own-base) sized-base) a (subst (λ (r : Order). R.Reached r t y h) (sym own-base) (R.reached base sized-base t y cs))
-          ∙ ap (λ (r : Order). Base.following (r .size) s u) own-base
+      next-base = ap (λ (r : Order). Base.following (r .size) s u) own-base
 
       found-wide : pivotsIn (stepped w c s) ≡ foundAfter s u ps
       found-wide =

@@ -7,7 +7,7 @@ use borrow.Author.Needs.{needs}
 use Rattle.solver.specs.Calls.{stepCall}
 use Rattle.verdict.proofs.Calls.{refuses-call, passes-call}
 use Rattle.solver.proofs.Calls.{step-done, step-stays}
-use Rattle.solver.proofs.Ready.{going, step-ready}
+use Rattle.solver.proofs.Ready.{going, step-ready, next-ready}
 use Rattle.verdict.proofs.Verdicts.{passes}
 use Rattle.solver.proofs.step.Statement.{statement}
 use Rattle.solver.proofs.step.Tie as tie
@@ -46,7 +46,9 @@ answer-requires : tie.Need-answer-requires
 answer-requires c κs = search needs
 
 next-requires : tie.Need-next-requires
-next-requires c κs = search needs
+next-requires c κs =
+    let found = c .before .before .before .before .before .before .before .before .before in
+    next-ready _ _ _ _ _ (passes _ _ (found .before .before .before .before .step .ensures) (found .before .before .enum-told .given .1)) _ (found .place .given .1)
 
 same-length-3 : tie.Need-same-length-3
 same-length-3 c = search needs

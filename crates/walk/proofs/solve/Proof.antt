@@ -1,7 +1,6 @@
 -- `walk::solve` meets its contract. The loop's invariant: what was counted and the steps left make up the list, and the walk of the steps left comes to the
 -- end of the whole walk. The measure is how many steps are left.
 -- Assumes nothing.
-use mathlib.Core.Bool.{true}
 use mathlib.Core.List.{List}
 use mathlib.Core.Path.{_≡_, refl, sym, ap, _∙_}
 use Prim.Native.Nat.{ℕ, _≤_, _<_, _+_, _-_}
@@ -12,10 +11,9 @@ use Rattle.course.specs.declared.Order.{Order}
 use Rattle.course.specs.declared.Progress.{Progress}
 use Rattle.course.specs.declared.Place.the-variants.{At}
 use Rattle.course.specs.StepList.{stepList, inList, costOf, maskCost, nonzeroCost, fullMask, fullNonzero}
-use Rattle.course.specs.Next.{following, orderOf, movedOn, startOf}
+use Rattle.course.specs.Next.{following, orderOf, startOf}
 use Rattle.course.proofs.Sums.{list-small, mask-small, nonzero-small}
 use Rattle.course.proofs.Along.{along-in, room-along}
-use Rattle.course.proofs.Moving.{moves-so, moves-on}
 use Rattle.walk.specs.Act.{Held, held}
 use Rattle.walk.specs.Walk.{Tally, Course, running, walk, fresh, conclude, solved}
 use Rattle.walk.proofs.Acted.{Lengths, acted-length}
@@ -92,8 +90,15 @@ act-requires c κs =
     let v = q .before .before .loop .inv in
     (p .0, (along-in _ (at-step q .along), ((v .lengths .table, v .lengths .solution), (rw (rest, length-drop) (omega (arith, room q .1, p .1 .1 .0)), rw (rest, length-drop) (omega (arith, room q .2, p .1 .1 .1))))))
 
+-- the counters have room, as the whole list does not take so many draws
 next-requires : tie.Need-next-requires Inv-loop μ-loop
-next-requires c κs = search needs
+next-requires c κs =
+    let q = c .before .before .before .before .before .before .before .before .before .before in
+    let z = q .before .before .before .before .before .before .before .before .pre .0 in
+    let e = q .before .before .loop .inv .order in
+    let h = room q in
+    let t = q .q .given .0 .0 in
+    (rw e z, (ap (λ (r : Order). inList (r .size) t) e ∙ along-in _ (at-step q .along), (rw e (omega (arith, h .1, mask-small _ z)), rw e (omega (arith, h .2, nonzero-small _ z)))))
 
 add-steps : tie.Need-add-steps Inv-loop μ-loop
 add-steps c =
@@ -104,22 +109,6 @@ add-steps c =
 loop-less : tie.Need-loop-less Inv-loop μ-loop
 loop-less c = omega (arith, room (c .before .before .before .before .before .before .before .before .before .before .before) .0)
 
--- the record is moved on: it has room, as the whole list does not take so many draws
-moved-on : (c : tie.After-next Inv-loop μ-loop) → let q = c .before .before .before .before .before .before .before .before .before .before .before in
-    c .next .result ≡ movedOn (q .before .before .loop .p) (q .q .given .0 .0) (c .before .before .before .before .before .act .result)
-moved-on c =
-    let q = c .before .before .before .before .before .before .before .before .before .before .before in
-    let s = q .before .before .before .before .before .before .before .before in
-    let o = s .args .o in
-    let p = q .before .before .loop .p in
-    let t = q .q .given .0 .0 in
-    let e = q .before .before .loop .inv .order in
-    let h = room q in
-    let a : p .mask + maskCost (orderOf p) t < 18446744073709551616 = rw e (omega (arith, h .1, mask-small o (s .pre .0))) in
-    let b : p .nonzero + nonzeroCost (orderOf p) t < 18446744073709551616 = rw e (omega (arith, h .2, nonzero-small o (s .pre .0))) in
-    let i : inList (p .size) t ≡ true = ap (λ (r : Order). inList (r .size) t) e ∙ along-in _ (at-step q .along) in
-    c .next .ensures ∙ moves-on p t (c .before .before .before .before .before .act .result) (q .q .given .1) (moves-so p t (rw e (s .pre .0)) i a b)
-
 loop-again : tie.Need-loop-again Inv-loop μ-loop
 loop-again c =
     let q = c .before .before .before .before .before .before .before .before .before .before .before in
@@ -129,7 +118,7 @@ loop-again c =
     let x = c .before .before .before .before .before .act in
     let g = at-step q in
     let left = rw (rest (l .p .mask) (a .mask .now), rest (l .p .nonzero) (a .nonzero .now)) at (x .ensures .1) in
-    rw (moved-on c)
+    rw (c .next .ensures)
     (record {
       order = l .inv .order;
       lengths = rw left (acted-length (a .o) s (along-in _ (g .along)) _ _ _ (l .inv .lengths));
