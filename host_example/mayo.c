@@ -1,4 +1,5 @@
-/* Solves wide systems of MAYO's sizes with Hostozaro, in one call and by steps.
+/* Solves wide systems of MAYO's sizes at levels I and III with Hostozaro, in one call and
+ * by steps.
  *
  * Each system is solved twice. In one call its tapes are as long as hz_wide_counts tells:
  * that is enough for any pivots, and usually more than is taken. By steps each draw is

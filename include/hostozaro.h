@@ -5,7 +5,7 @@
  * whose sum (exclusive or) is the entry. It solves the whole system in one call,
  * or one small step to a call, so that a host can do other work in between. It
  * also deals plain values into shares and gathers shares back. For MAYO there are
- * calls for wide systems, with more unknowns than equations. For the laboratory
+ * calls for wide systems, whose unknowns may outnumber the equations. For the laboratory
  * there is an unmasked twin, hz_plain, that solves plain values in the open. Two
  * sites can swap a shared table with its numbers as one record. The library makes
  * no random numbers: the host lends them, on two tapes. The inputs of a call
@@ -45,12 +45,14 @@
  * Nonzero tape: the same, but no draw that is needed may be 0. For field 16 that
  * shuts out 0x00, 0x10, 0x20 .. 0xF0.
  * Draws are taken from the front, each byte once. Never lend a byte a second
- * time: the secrecy of the shares rests on it.
+ * time: the secrecy of the shares rests on it. What a solve was lent and did not
+ * take counts as lent. Only after a refusal, which has taken none, may the same
+ * bytes be lent again, and not after 12, which has used them.
  * hz_solve, hz_wide_solve and hz_deal take tapes as long as wanted or longer and
  * read nothing behind the part that is wanted. hz_step and hz_wide_step want exactly the
  * draws of their step, and hz_wanted and hz_wide_wanted tell beforehand how many
  * these are. hz_counts tells how many draws a full solve needs, and hz_wide_counts
- * how many a whole wide solve may need. A deal needs m(m+1)(n-1).
+ * how many a whole wide solve must be lent. A deal needs m(m+1)(n-1).
  * A record counts the draws that its steps took. So where both tapes of a full
  * solve are fetched beforehand, words HZ_MASK_TAKEN and HZ_NONZERO_TAKEN of the
  * record (HZ_WIDE_MASK_TAKEN and HZ_WIDE_NONZERO_TAKEN of a wide one) say where on
@@ -65,10 +67,10 @@
  *
  *     ((r-1)(C+1) + (c-1))·n + (s-1)
  *
- * of a table of M(C+1)n bytes. The solution has C bytes. A host deals its table
- * itself, or takes it from the steps of its signing scheme: for each entry any n
- * bytes 0..15 whose sum is the entry. hz_deal, hz_gather, hz_plain, hz_write and
- * hz_read are for square systems.
+ * of a table of M(C+1)n bytes. The solution has C bytes. A host takes its table
+ * from the steps of its signing scheme, or deals it itself: for each entry shares 2
+ * to n are fresh random draws 0..15, and share 1 is the entry plus their sum.
+ * hz_deal, hz_gather, hz_plain, hz_write and hz_read are for square systems.
  *
  * The pivots are the columns that the columns before them don't combine to (the
  * empty combination is 0: a column of zeros is no pivot). At most M of them can
@@ -134,9 +136,9 @@
  *        has a byte of 16 or more               such byte (values: share 0)
  *     7  mask tape too short                    length wanted
  *     8  nonzero tape too short                 length wanted
- *     9  a nonzero draw that is needed is 0     first such place, from 0
+ *     9  a nonzero draw that is wanted is 0     first such place, from 0
  *    10  record: no such place for this size    0
- *        (a wide one: for these pivots)
+ *        (a wide one: sizes and pivots)
  *    11  record: already stopped, short or done 0
  *    12  a step at Scale: the pivot is 0        its row, j, 0: row, column, share
  *                                               (hz_step: the row is j)
@@ -183,7 +185,7 @@ extern "C" {
 
 /* What a call returns. */
 #define HZ_REFUSED    0 /* answer: number, detail; of 6 and 12: number, row, column, share */
-#define HZ_MOVED      1 /* step: done, and nothing was opened */
+#define HZ_MOVED      1 /* step: done, and no unknown was opened */
 #define HZ_OPENED     2 /* step: answer: j, x_j */
 #define HZ_STOPPED    3 /* step, plain: answer: j.   solve: answer: j, steps, mask draws, nonzero draws */
 #define HZ_DONE       4 /* step: the last one. answer: x_1.   wide step: answer: j, x_j */
@@ -216,9 +218,9 @@ extern "C" {
 #define HZ_AT_DONE    6 /* j and k are 0 */
 #define HZ_LIFT       7 /* j, 2 <= j <= m; k is 0 */
 
-/* The words of a wide record. Its word HZ_WIDE_STEP says what HZ_STEP does, but for
- * HZ_AT_STOPPED, which it never is, and HZ_AT_SHORT. Which j and k go with which
- * step and which pivots, hz_wide_step says. */
+/* The words of a wide record. Its word HZ_WIDE_STEP says what HZ_STEP does, with
+ * HZ_AT_SHORT in the place of HZ_AT_STOPPED, which it never is. Which j and k go with
+ * which step and which pivots, hz_wide_step says. */
 #define HZ_WIDE_FIELD         0
 #define HZ_WIDE_SHARES        1
 #define HZ_WIDE_ROWS          2
@@ -226,8 +228,8 @@ extern "C" {
 #define HZ_WIDE_STEP          4
 #define HZ_WIDE_J             5
 #define HZ_WIDE_K             6
-#define HZ_WIDE_MASK_TAKEN    7
-#define HZ_WIDE_NONZERO_TAKEN 8
+#define HZ_WIDE_MASK_TAKEN    7 /* the mask draws of all steps before the place */
+#define HZ_WIDE_NONZERO_TAKEN 8 /* and their nonzero draws */
 #define HZ_WIDE_FOUND         9 /* how many pivots are found */
 #define HZ_WIDE_PIVOTS       10 /* the first of 96 words: the pivots found, ascending, then zeros */
 
@@ -405,9 +407,10 @@ uint64_t hz_wide_wanted(const uint64_t *record, size_t record_len,
  * rows k above the pivot's row.
  *
  * HZ_MOVED: after Mix, Check, Scale, Clear, Lift, also after a Check that passed its
- *     column over, unless the answer is HZ_SHORT. The record is at the next place;
- *     from a Check that opened 0 on it keeps column j as a pivot. The solution is
- *     unchanged.
+ *     column over, unless the answer is HZ_SHORT. The table is as after this step, the
+ *     record at the next place. A Check that opened 0 has added column j to the
+ *     record's pivots, so its word HZ_WIDE_FOUND is 1 more; where a column is passed
+ *     over it is not. The solution is unchanged.
  * HZ_OPENED: after Open(j), where j is not the first pivot. Byte j-1 of the solution is
  *     x_j and its other bytes are unchanged; so is the table. The record is at Lift(j).
  * HZ_DONE: the same after Open of the first pivot; the record becomes done (j, k: 0).
@@ -417,18 +420,24 @@ uint64_t hz_wide_wanted(const uint64_t *record, size_t record_len,
  * HZ_SHORT: the last column was done, and a row has no pivot. The record becomes short
  *     (j, k: 0). The step itself, a Check or a Clear, was done on the table as ever;
  *     the solution is unchanged.
+ * In a run from hz_wide_start, where record, table and solution are touched by
+ *     hz_wide_step alone, short means that the rank is below M, the record's pivots are
+ *     the system's, and at done the bytes of the pivots are those of its solution. Of a
+ *     record or a table that a host made up they say nothing more.
  * Refusals, in order: 1, 2, 3, 21 (the record's numbers), 4 (table M(C+1)n), 5
  *     (solution C, whatever the step), 10, 19, 11, 6 (the whole table), 7, 14, 8, 15,
  *     9 (place within the bytes lent), 20, 12.
  *     10 is any place that its pivots can't have, and any pivots that no place has:
- *     more than rows, not ascending in 1..C, a slot beyond those found that is not 0;
- *     another step number, a j or k that the list has not at these pivots, or not 0
- *     where the step carries none. Before column j has its pivot (Mix, Check) all
- *     pivots found are below j and fewer than M; from its Scale on (Scale, Clear) the
- *     last one is j; Open and Lift have M pivots, j among them; short has fewer than M
- *     and done has M. 19 is any pair of counters but the sums of the draws of the steps
- *     before the place, by its pivots: a short place's are those of every column, and a
- *     done one's of the whole list. 10, 12 and 19 cannot come up while a record that
+ *     more than rows, not rising from one to the next in 1..C, a slot beyond those
+ *     found that is not 0; another step number, a j or k that the list has not at these
+ *     pivots, or not 0 where the step carries none. Before column j has its pivot (Mix,
+ *     Check) all pivots found are below j <= C and fewer than M, and Mix has k from 2
+ *     more than these to M; from its Scale on (Scale, Clear) the last one is j, and
+ *     Clear has k from 1 more than those found to M; Open and Lift have M pivots, j
+ *     among them, and for Lift not the first; short has fewer than M and done has M.
+ *     19 is any pair of counters but the sums of the draws of the steps before the
+ *     place, by its pivots: a short place's are those of every column, and a done one's
+ *     of the whole list. 10, 12 and 19 cannot come up while a record that
  *     hz_wide_start made and its table are touched by hz_wide_step alone; nor can 20,
  *     where that holds of the solution too. */
 uint64_t hz_wide_step(uint64_t *record, size_t record_len,
@@ -504,4 +513,4 @@ uint64_t hz_read(const uint8_t *input, size_t input_len,
  *
  * host_example/solve.c is a program of this kind, and drives single steps too;
  * host_example/ahead.c drives them from long tapes that are fetched ahead, and
- * host_example/mayo.c solves wide systems of MAYO's sizes. */
+ * host_example/mayo.c solves wide systems of MAYO's sizes at levels I and III. */
