@@ -1,0 +1,3 @@
+/* As stdint.h here. */
+#pragma once
+typedef __SIZE_TYPE__ size_t;
