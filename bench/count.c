@@ -1,14 +1,16 @@
-/* Counts the x86-64 instructions of full solves, inside the called functions only,
- * and compares every result with the model's.
+/* Counts the instructions of full solves, inside the called functions only, and compares
+ * every result with the model's.
  *
  *     count PROGRAM [SIZE..]
+ *     count PROGRAM --board
  *
  * PROGRAM holds the library, the model, the C solves and M4RIE if that is installed; it
  * is emulated. A size is that of a square system, or ROWSxCOLUMNS for a wide one. Where
- * sizes are given, only those are counted, and nothing is set against document 001. */
+ * sizes are given, only those are counted, and nothing is set against document 001. With
+ * --board PROGRAM is for a Cortex-M4; it has other tables, and one of the stack. */
 #include "hostozaro.h"
 #include "model.h"
-#include "x86.h"
+#include "emulator.h"
 
 #include <inttypes.h>
 #include <stdbool.h>
@@ -20,7 +22,7 @@
 #define MAX_TABLE (MAX_ENTRIES * 4)
 #define MAX_MASK 12528144 /* wide, n = 4, 96 rows, 144 columns */
 
-static x86 *machine;
+static emulator *machine;
 
 /* One system with its tapes, and what a solve must leave. A square one has as many columns
  * as rows. */
@@ -118,25 +120,25 @@ static const uint8_t empty[144];
 
 static void lend(void)
 {
-    x86_reset(machine);
-    at_table = x86_lend(machine, table, table_len);
-    at_x = x86_lend(machine, empty, columns);
-    at_mask = x86_lend(machine, mask, mask_len);
-    at_nonzero = x86_lend(machine, nonzero, nonzero_len);
-    at_answer = x86_lend(machine, empty, 32);
+    emulator_reset(machine);
+    at_table = emulator_lend(machine, table, table_len);
+    at_x = emulator_lend(machine, empty, columns);
+    at_mask = emulator_lend(machine, mask, mask_len);
+    at_nonzero = emulator_lend(machine, nonzero, nonzero_len);
+    at_answer = emulator_lend(machine, empty, 32);
 }
 
 static void compare_solution(const char *name)
 {
     uint8_t x[144];
-    x86_take(machine, at_x, x, columns);
+    emulator_take(machine, at_x, x, columns);
     compare(name, x, wanted_x, columns);
 }
 
 static void compare_results(const char *name)
 {
     static uint8_t got[MAX_TABLE];
-    x86_take(machine, at_table, got, table_len);
+    emulator_take(machine, at_table, got, table_len);
     compare(name, got, wanted, table_len);
     compare_solution(name);
 }
@@ -148,9 +150,9 @@ static uint64_t whole(const char *name, const uint64_t *lent, size_t count)
     size_t numbers = wide ? 4 : 3;
     memcpy(arguments + numbers, lent, count * sizeof *lent);
     count += numbers;
-    uint64_t answer[4], code = x86_call(machine, name, arguments, count), solved = HZ_SOLVED;
+    uint64_t answer[4], code = emulator_call(machine, name, numbers, arguments, count), solved = HZ_SOLVED;
     compare(name, &code, &solved, sizeof code);
-    x86_take(machine, at_answer, answer, sizeof answer);
+    emulator_take(machine, at_answer, answer, sizeof answer);
     compare(name, answer, wanted_answer, sizeof answer);
     compare_results(name);
     return machine->counted;
@@ -180,19 +182,20 @@ static uint64_t single_steps(void)
     const char *step = wide ? "hz_wide_step" : "hz_step";
     uint64_t record[HZ_WIDE_RECORD_WORDS], words = wide ? HZ_WIDE_RECORD_WORDS : HZ_RECORD_WORDS, sum, code;
     lend();
-    uint64_t at_record = x86_lend(machine, no_record, words * sizeof *no_record);
+    uint64_t at_record = emulator_lend(machine, no_record, words * sizeof *no_record);
     if (wide)
-        x86_call(machine, "hz_wide_start", (uint64_t[]){field, n, rows, columns, at_record, words, at_answer, 4}, 8);
+        emulator_call(machine, "hz_wide_start", 4,
+                      (uint64_t[]){field, n, rows, columns, at_record, words, at_answer, 4}, 8);
     else
-        x86_call(machine, "hz_start", (uint64_t[]){field, n, rows, at_record, words, at_answer, 4}, 7);
+        emulator_call(machine, "hz_start", 3, (uint64_t[]){field, n, rows, at_record, words, at_answer, 4}, 7);
     sum = machine->counted;
     do {
-        x86_take(machine, at_record, record, words * sizeof *record);
+        emulator_take(machine, at_record, record, words * sizeof *record);
         uint64_t kind = record[wide ? HZ_WIDE_STEP : HZ_STEP];
         uint64_t masks = model_mask_draws(field, n, columns, kind, record[wide ? HZ_WIDE_J : HZ_J]);
         uint64_t nonzeros = model_nonzero_draws(n, kind);
-        code = x86_call(machine, step,
-                        (uint64_t[]){at_record, words, at_table, table_len, at_x, columns, at_mask, masks, at_nonzero,
+        code = emulator_call(machine, step, 0,
+                             (uint64_t[]){at_record, words, at_table, table_len, at_x, columns, at_mask, masks, at_nonzero,
                                      nonzeros, at_answer, 4},
                         12);
         sum += machine->counted;
@@ -207,16 +210,16 @@ static uint64_t single_steps(void)
  * shows if they are not written. */
 static void lend_values(void)
 {
-    x86_reset(machine);
-    at_values = x86_lend(machine, values, entries);
-    at_x = x86_lend(machine, wanted, rows);
-    at_answer = x86_lend(machine, wanted, 32);
+    emulator_reset(machine);
+    at_values = emulator_lend(machine, values, entries);
+    at_x = emulator_lend(machine, wanted, rows);
+    at_answer = emulator_lend(machine, wanted, 32);
 }
 
 static uint64_t plain_c(void)
 {
     lend_values();
-    x86_call(machine, "plain_solve", (uint64_t[]){field, rows, at_values, at_x}, 4);
+    emulator_call(machine, "plain_solve", 2, (uint64_t[]){field, rows, at_values, at_x}, 4);
     compare_solution("plain_solve");
     return machine->counted;
 }
@@ -226,12 +229,12 @@ static uint64_t plain_engine(void)
     uint64_t answer[4], solved = HZ_SOLVED;
     uint8_t after[MAX_ENTRIES];
     lend_values();
-    uint64_t code = x86_call(machine, "hz_plain",
-                             (uint64_t[]){field, rows, at_values, entries, at_x, rows, at_answer, 4}, 8);
+    uint64_t code = emulator_call(machine, "hz_plain", 2,
+                                  (uint64_t[]){field, rows, at_values, entries, at_x, rows, at_answer, 4}, 8);
     compare("hz_plain", &code, &solved, sizeof code);
-    x86_take(machine, at_answer, answer, sizeof answer);
+    emulator_take(machine, at_answer, answer, sizeof answer);
     compare("hz_plain", answer, empty, sizeof answer);
-    x86_take(machine, at_values, after, entries);
+    emulator_take(machine, at_values, after, entries);
     compare("hz_plain", after, values, entries);
     compare_solution("hz_plain");
     return machine->counted;
@@ -254,16 +257,16 @@ static m4rie_counts m4rie(void)
     m4rie_counts counted;
     lend_values();
     /* Debian builds M4RIE with a stack protector, which looks at fs:0x28. */
-    uint64_t at_thread = x86_lend(machine, empty, 64);
+    uint64_t at_thread = emulator_lend(machine, empty, 64);
     uc_reg_write(machine->uc, UC_X86_REG_FS_BASE, &at_thread);
-    x86_call(machine, "m4rie_open", &field, 1);
-    x86_call(machine, "m4rie_fill", (uint64_t[]){rows, at_values}, 2);
+    emulator_call(machine, "m4rie_open", 1, &field, 1);
+    emulator_call(machine, "m4rie_fill", 1, (uint64_t[]){rows, at_values}, 2);
     counted.solve = machine->counted;
-    uint64_t rank = x86_call(machine, "m4rie_reduce", NULL, 0);
+    uint64_t rank = emulator_call(machine, "m4rie_reduce", 0, NULL, 0);
     counted.echelon_form = machine->counted;
-    x86_call(machine, "m4rie_take", &at_x, 1);
+    emulator_call(machine, "m4rie_take", 0, &at_x, 1);
     counted.solve += counted.echelon_form + machine->counted;
-    x86_call(machine, "m4rie_close", NULL, 0);
+    emulator_call(machine, "m4rie_close", 0, NULL, 0);
     compare("M4RIE's rank", &rank, &rows, sizeof rank);
     compare_solution("M4RIE");
     return counted;
@@ -381,11 +384,159 @@ static void print_plain(char **sizes, int count)
         printf("\nM4RIE is not installed here (Debian's libm4rie-dev and libm4ri-dev), so it has no column.\n");
 }
 
+/* ---- The board ---- */
+
+typedef struct {
+    uint64_t library, straight, ordered;
+} board_counts;
+
+static board_counts print_board_row(void)
+{
+    board_counts of = {with_lengths("hz_solve"), with_lengths("model_solve"), without_lengths("ordered_solve")};
+    printf("| F%" PRIu64 " | %" PRIu64 " | %" PRIu64 " | %.3f | %.3f | %.3f | %.2f | %.2f |\n", field, n, rows,
+           millions(of.library), millions(of.straight), millions(of.ordered), over(of.library, of.straight),
+           over(of.library, of.ordered));
+    fflush(stdout);
+    return of;
+}
+
+/* Of a count of more than a million. */
+static void print_thousands(uint64_t count)
+{
+    uint64_t thousands = (count + 500) / 1000;
+    printf("%" PRIu64 ",%03" PRIu64 " | ", thousands / 1000, thousands % 1000);
+}
+
+static void print_board_counts(void)
+{
+    static const struct {
+        uint64_t size;
+        const char *masked, *unmasked; /* thousands of cycles of document 001, F256 and n = 2 */
+    } paper[3] = {{44, "6,670", "1,034"}, {72, "24,399", "4,117"}, {96, "53,461", "9,336"}};
+    board_counts beside[3];
+    printf("| field | n | m | library | straightforward C | ordered C | library / straightforward "
+           "| library / ordered |\n|---|---|---|---|---|---|---|---|\n");
+    for (uint64_t f = 16; f <= 256; f += 240)
+        for (uint64_t shares = 2; shares <= 4; shares++)
+            for (int i = 0; i < 3; i++) {
+                make_system(f, shares, paper[i].size);
+                board_counts of = print_board_row();
+                if (f == 256 && shares == 2)
+                    beside[i] = of;
+            }
+    printf("\nThe rows of F256 with n = 2 beside document 001, which has cycles of a Cortex-M4; both in thousands.\n"
+           "Its cycles have the making of its random numbers in them, and it mixes only a few rows. Instructions are\n"
+           "not cycles: a load takes 2 cycles where it does not follow another, a taken branch 2 to 4, and so on.\n"
+           "Nothing here is timed. The emulator does not count an instruction that its condition skips, on which the\n"
+           "core spends a cycle: 1 or 2 of a hundred of the library's.\n\n"
+           "| m | library, instructions | ordered C, instructions | 001 masked, cycles | 001 unmasked, cycles |\n"
+           "|---|---|---|---|---|\n");
+    for (int i = 0; i < 3; i++) {
+        printf("| %" PRIu64 " | ", paper[i].size);
+        print_thousands(beside[i].library);
+        print_thousands(beside[i].ordered);
+        printf("%s | %s |\n", paper[i].masked, paper[i].unmasked);
+    }
+}
+
+/* The lowest that the stack pointer was before an instruction. */
+static uint32_t lowest = UINT32_MAX;
+
+static void look_at_stack(uc_engine *uc, uint64_t address, uint32_t size, void *nothing)
+{
+    (void)address, (void)size, (void)nothing;
+    uint32_t pointer;
+    uc_reg_read(uc, UC_ARM_REG_SP, &pointer);
+    if (pointer < lowest)
+        lowest = pointer;
+}
+
+/* How far below their caller's stack pointer the calls went since the last time. A call
+ * leaves the pointer as it was. */
+static uint32_t stack_taken(void)
+{
+    uint32_t pointer, taken;
+    uc_reg_read(machine->uc, UC_ARM_REG_SP, &pointer);
+    taken = pointer - lowest;
+    lowest = UINT32_MAX;
+    return taken;
+}
+
+static void deal_on_board(void)
+{
+    static uint8_t got[MAX_TABLE], dealt[MAX_TABLE];
+    uint64_t draws = entries * (n - 1), answer[4], filled = HZ_FILLED;
+    emulator_reset(machine);
+    at_values = emulator_lend(machine, values, entries);
+    at_table = emulator_lend(machine, table, table_len);
+    at_mask = emulator_lend(machine, mask, draws);
+    at_answer = emulator_lend(machine, empty, 32);
+    uint64_t code = emulator_call(
+        machine, "hz_deal", 3,
+        (uint64_t[]){field, n, rows, at_values, entries, at_table, table_len, at_mask, draws, at_answer, 4}, 11);
+    compare("hz_deal", &code, &filled, sizeof code);
+    model_deal(field, n, rows, values, entries, dealt, table_len, mask, draws, answer, 4);
+    emulator_take(machine, at_table, got, table_len);
+    compare("hz_deal", got, dealt, table_len);
+}
+
+typedef enum { STEP, SOLVE, WIDE_STEP, WIDE_SOLVE, DEAL, PLAIN, STRAIGHT, ORDERED, STACK_COLUMNS } stack_column;
+
+static void note_stack(uint32_t most[STACK_COLUMNS], stack_column of)
+{
+    uint32_t taken = stack_taken();
+    if (taken > most[of])
+        most[of] = taken;
+}
+
+/* No frame grows with the size; but a row of more than 97 columns is joined in two parts,
+ * so the wide systems have such rows. */
+static void print_stack_row(uint64_t shares)
+{
+    uint32_t most[STACK_COLUMNS] = {0};
+    for (uint64_t f = 16; f <= 256; f += 240) {
+        make_system(f, shares, 16);
+        single_steps(), note_stack(most, STEP);
+        with_lengths("hz_solve"), note_stack(most, SOLVE);
+        deal_on_board(), note_stack(most, DEAL);
+        plain_engine(), note_stack(most, PLAIN);
+        with_lengths("model_solve"), note_stack(most, STRAIGHT);
+        without_lengths("ordered_solve"), note_stack(most, ORDERED);
+    }
+    make_wide_system(shares, 4, 144, 0);
+    single_steps(), note_stack(most, WIDE_STEP);
+    with_lengths("hz_wide_solve"), note_stack(most, WIDE_SOLVE);
+    printf("| %" PRIu64, shares);
+    for (int i = 0; i < STACK_COLUMNS; i++)
+        printf(" | %" PRIu32, most[i]);
+    printf(" |\n");
+}
+
+/* On a machine of its own, since all else is faster without a look at the stack. */
+static void print_stack(const char *program)
+{
+    uc_hook hook;
+    machine = emulator_open(program);
+    if (uc_hook_add(machine->uc, &hook, UC_HOOK_CODE, (void *)look_at_stack, NULL, 1, 0) != UC_ERR_OK)
+        exit(2);
+    printf("\nBytes of stack below the caller's stack pointer: the most over both fields, and for the step calls over\n"
+           "a whole run.\n\n"
+           "| n | hz_step | hz_solve | hz_wide_step | hz_wide_solve | hz_deal | hz_plain | straightforward C "
+           "| ordered C |\n|---|---|---|---|---|---|---|---|---|\n");
+    for (uint64_t shares = 2; shares <= 4; shares++)
+        print_stack_row(shares);
+}
+
 int main(int argc, char **argv)
 {
     if (argc < 2)
         return 2;
-    machine = x86_open(argv[1]);
+    machine = emulator_open(argv[1]);
+    if (argc == 3 && strcmp(argv[2], "--board") == 0) {
+        print_board_counts();
+        print_stack(argv[1]);
+        return 0;
+    }
     char *squares[argc], *wides[argc];
     int square_count = 0, wide_count = 0;
     for (int i = 2; i < argc; i++)

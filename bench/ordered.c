@@ -1,11 +1,7 @@
 /* The masked solve with additions in the paper's order. HOLD keeps it: after it
  * the compiler knows nothing of how v came about, so it can't move a term from
  * before to after it. */
-#if defined __x86_64__
-#define HOLD(v) __asm__("" : "+x"(v))
-#else
-#define HOLD(v) __asm__("" : "+w"(v)) /* Arm, to try it there */
-#endif
+#define HOLD(v) __asm__("" : IN_PLACE(v))
 #define HOLD_BYTE(v) __asm__("" : "+r"(v))
 #include "rows.h"
 

@@ -7,7 +7,7 @@ INLINE void add_times(unsigned w, uint8_t *to, uint8_t factor, const uint8_t *fr
 {
     vec of_factor[8];
     multiples(w, factor, of_factor);
-    for (size_t c = first; c < columns; c += 16)
+    for (size_t c = first; c < columns; c += LANES)
         store(to + c, load(to + c) ^ times_vec(w, of_factor, load(from + c)));
 }
 
@@ -31,7 +31,7 @@ INLINE uint64_t solve(unsigned w, size_t m, const uint8_t *values, uint8_t *solu
         uint8_t factor = inverse(w, pivot[j]);
         vec of_factor[8];
         multiples(w, factor, of_factor);
-        for (size_t c = j; c <= m; c += 16)
+        for (size_t c = j; c <= m; c += LANES)
             store(pivot + c, times_vec(w, of_factor, load(pivot + c)));
         for (size_t k = j + 1; k < m; k++)
             add_times(w, row[k], row[k][j], pivot, j, m + 1);

@@ -27,6 +27,19 @@ INLINE uint8_t draw(unsigned w, const uint8_t **tape)
     return *(*tape)++ & (uint8_t)((1u << w) - 1);
 }
 
+/* split: the draws of LANES columns, `each` to a column, into a vector for each draw of a
+ * column. */
+#if LANES == 4
+
+INLINE void split(unsigned w, unsigned each, const uint8_t *tape, vec z[6])
+{
+    for (unsigned i = 0; i < each; i++, tape++)
+        z[i] = (tape[0] | (vec)tape[each] << 8 | (vec)tape[2 * each] << 16 | (vec)tape[3 * each] << 24)
+               & all((1u << w) - 1);
+}
+
+#else
+
 INLINE vec low_with_low(vec a, vec b)
 {
     return __builtin_shuffle(a, b, (vec){0, 16, 1, 17, 2, 18, 3, 19, 4, 20, 5, 21, 6, 22, 7, 23});
@@ -57,19 +70,11 @@ INLINE void split_3(vec *a, vec *b, vec *c)
     }
 }
 
-/* The draws of sixteen columns, `each` to a column, into a vector for each draw of
- * a column. Where fewer columns are left no byte after their draws is read. */
-INLINE void draw_columns(unsigned w, unsigned each, const uint8_t *tape, size_t columns, vec z[6])
+INLINE void split(unsigned w, unsigned each, const uint8_t *tape, vec z[6])
 {
-    uint8_t rest[6 * 16];
-    if (columns < 16) {
-        memcpy(rest, tape, columns * each);
-        memset(rest + columns * each, 0, (16 - columns) * each);
-        tape = rest;
-    }
     vec v[6];
     for (unsigned i = 0; i < each; i++)
-        v[i] = load(tape + 16 * i) & all((1u << w) - 1);
+        v[i] = load(tape + LANES * i) & all((1u << w) - 1);
     if (each % 2 == 0) {
         vec even[3], odd[3];
         for (unsigned i = 0; i < each / 2; i++)
@@ -88,6 +93,20 @@ INLINE void draw_columns(unsigned w, unsigned each, const uint8_t *tape, size_t 
         for (unsigned i = 0; i < each; i++)
             z[i] = v[i];
     }
+}
+
+#endif
+
+/* Where fewer than LANES columns are left no byte after their draws is read. */
+INLINE void draw_columns(unsigned w, unsigned each, const uint8_t *tape, size_t columns, vec z[6])
+{
+    uint8_t rest[6 * LANES];
+    if (columns < LANES) {
+        memcpy(rest, tape, columns * each);
+        memset(rest + columns * each, 0, (LANES - columns) * each);
+        tape = rest;
+    }
+    split(w, each, tape, z);
 }
 
 /* ---- One entry ---- */
@@ -173,13 +192,13 @@ INLINE void add_product(work *t, unsigned w, unsigned n, size_t to, const uint8_
     vec of_a[4][8];
     for (unsigned i = 0; i < n; i++)
         multiples(w, a[i], of_a[i]);
-    for (size_t c = first; c < end; c += 16) {
-        size_t left = end - c < 16 ? end - c : 16;
+    for (size_t c = first; c < end; c += LANES) {
+        size_t left = end - c < LANES ? end - c : LANES;
         vec z[6], cross[4][4], out[4];
         draw_columns(w, pairs, mask, left, z);
         mask += pairs * left;
         for (unsigned s = n; s-- > 0;) {
-            vec b = load(source[s] + c), by[4] = {{0}};
+            vec b = load(source[s] + c), by[4] = {0};
             for (unsigned bit = 0; bit < w; bit++) {
                 vec chosen = where_bit(b, bit);
                 for (unsigned i = 0; i < n; i++)
@@ -240,8 +259,8 @@ INLINE void scale(work *t, unsigned w, unsigned n, size_t r, size_t j)
     for (unsigned i = 0; i < n; i++) {
         vec of_factor[8];
         multiples(w, factors[i], of_factor);
-        for (size_t c = j; c <= t->columns; c += 16) {
-            size_t left = t->columns + 1 - c < 16 ? t->columns + 1 - c : 16;
+        for (size_t c = j; c <= t->columns; c += LANES) {
+            size_t left = t->columns + 1 - c < LANES ? t->columns + 1 - c : LANES;
             vec z[6], first = times_vec(w, of_factor, load(t->row[r][0] + c));
             draw_columns(w, n - 1, t->mask, left, z);
             t->mask += (n - 1) * left;

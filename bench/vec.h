@@ -1,4 +1,6 @@
-/* Sixteen elements at once, in the vectors that gcc makes of SSE2. */
+/* As many elements at once as LANES says: sixteen, in the vectors that gcc makes of SSE2 or
+ * of AArch64's, or four in a word, for a core that has no vectors. -DLANES=4 tries the
+ * words elsewhere. */
 #ifndef VEC_H
 #define VEC_H
 
@@ -6,11 +8,30 @@
 #include <stdint.h>
 #include <string.h>
 
-typedef uint8_t vec __attribute__((vector_size(16)));
+#ifndef LANES
+#ifdef __arm__
+#define LANES 4
+#else
+#define LANES 16
+#endif
+#endif
 
-/* A row, of up to 145 columns, is worked on from any column in sixteens, so up to 15
- * columns beyond its last; what stands there is never looked at. */
-#define BEYOND 15
+/* IN_PLACE: how inline assembly names a vec that it may change. */
+#if LANES == 4
+typedef uint32_t vec;
+#define IN_PLACE "+r"
+#else
+typedef uint8_t vec __attribute__((vector_size(LANES)));
+#ifdef __x86_64__
+#define IN_PLACE "+x"
+#else
+#define IN_PLACE "+w"
+#endif
+#endif
+
+/* A row, of up to 145 columns, is worked on from any column by LANES at once, so up to
+ * BEYOND columns beyond its last; what stands there is never looked at. */
+#define BEYOND (LANES - 1)
 #define STRIDE (145 + BEYOND)
 
 /* So that w and n are constants in each copy of the code. */
@@ -19,19 +40,43 @@ typedef uint8_t vec __attribute__((vector_size(16)));
 INLINE vec load(const uint8_t *p)
 {
     vec v;
-    memcpy(&v, p, 16);
+    memcpy(&v, p, LANES);
     return v;
 }
 
 INLINE void store(uint8_t *p, vec v)
 {
-    memcpy(p, &v, 16);
+    memcpy(p, &v, LANES);
 }
+
+#if LANES == 4
+
+INLINE vec all(unsigned byte)
+{
+    return (uint8_t)byte * 0x01010101u;
+}
+
+/* All ones where bit t of b is 1. */
+INLINE vec where_bit(vec b, unsigned t)
+{
+    return (b >> t & 0x01010101u) * 0xffu;
+}
+
+#else
 
 INLINE vec all(unsigned byte)
 {
     return (vec){0} + (uint8_t)byte;
 }
+
+/* All ones where bit t of b is 1. */
+INLINE vec where_bit(vec b, unsigned t)
+{
+    vec bit = all(1u << t);
+    return (vec)((b & bit) == bit);
+}
+
+#endif
 
 /* a times x, for w bits. */
 INLINE uint8_t doubled(unsigned w, uint8_t a)
@@ -46,13 +91,6 @@ INLINE void multiples(unsigned w, uint8_t a, vec out[8])
 {
     for (unsigned t = 0; t < w; t++, a = doubled(w, a))
         out[t] = all(a);
-}
-
-/* All ones where bit t of b is 1. */
-INLINE vec where_bit(vec b, unsigned t)
-{
-    vec bit = all(1u << t);
-    return (vec)((b & bit) == bit);
 }
 
 INLINE vec times_vec(unsigned w, const vec of_a[8], vec b)

@@ -57,7 +57,7 @@ static const scene scenes[] = {
     {WHOLE, 0, 0, WIDE(3, 5, 1, 3, 4)},
 };
 
-static x86 *machine;
+static emulator *machine;
 static sizes size;
 static const scene *now;
 static place here; /* where a scene of one step stands */
@@ -326,25 +326,22 @@ static void call(const input *in, bool values, trace *t)
     uint8_t table[ROOM], solution[MOST_COLUMNS], wanted_table[ROOM], wanted_solution[MOST_COLUMNS];
     record r = first_record();
     first_solution(in, solution);
-    x86_reset(machine);
-    uint64_t at_record = x86_lend(machine, r.word, record_words() * sizeof *r.word);
-    uint64_t at_table = x86_lend(machine, in->table, table_len);
-    uint64_t at_solution = x86_lend(machine, solution, size.columns);
-    uint64_t at_mask = x86_lend(machine, in->mask, mask_len);
-    uint64_t at_nonzero = x86_lend(machine, in->nonzero, nonzero_len);
-    uint64_t at_answer = x86_lend(machine, empty, sizeof empty);
+    emulator_reset(machine);
+    uint64_t at_record = emulator_lend(machine, r.word, record_words() * sizeof *r.word);
+    uint64_t at_table = emulator_lend(machine, in->table, table_len);
+    uint64_t at_solution = emulator_lend(machine, solution, size.columns);
+    uint64_t at_mask = emulator_lend(machine, in->mask, mask_len);
+    uint64_t at_nonzero = emulator_lend(machine, in->nonzero, nonzero_len);
+    uint64_t at_answer = emulator_lend(machine, empty, sizeof empty);
     static const char *const names[2][2] = {{"hz_step", "hz_solve"}, {"hz_wide_step", "hz_wide_solve"}};
     uint64_t arguments[14] = {size.field, size.n, size.rows, size.columns};
-    size_t count = now->wide ? 4 : 3;
-    if (now->step != WHOLE)
-        arguments[0] = at_record, arguments[1] = record_words(), count = 2;
-    memcpy(arguments + count,
-           (uint64_t[]){at_table, table_len, at_solution, size.columns, at_mask, mask_len, at_nonzero, nonzero_len,
-                        at_answer, 4},
-           10 * sizeof *arguments);
-    code = trace_call(machine, names[now->wide][now->step == WHOLE], arguments, count + 10, values, t);
-    x86_take(machine, at_table, table, table_len);
-    x86_take(machine, at_solution, solution, size.columns);
+    uint64_t buffers[12] = {at_record, record_words(), at_table, table_len, at_solution, size.columns,
+                            at_mask, mask_len, at_nonzero, nonzero_len, at_answer, 4};
+    size_t numbers = now->step != WHOLE ? 0 : now->wide ? 4 : 3, lent = now->step != WHOLE ? 12 : 10;
+    memcpy(arguments + numbers, buffers + 12 - lent, lent * sizeof *buffers);
+    code = trace_call(machine, names[now->wide][now->step == WHOLE], numbers, arguments, numbers + lent, values, t);
+    emulator_take(machine, at_table, table, table_len);
+    emulator_take(machine, at_solution, solution, size.columns);
     if (code != model_outcome(in, wanted_table, wanted_solution) || memcmp(table, wanted_table, table_len) != 0
         || memcmp(solution, wanted_solution, size.columns) != 0) {
         printf("the library differs from the model\n");
@@ -366,7 +363,7 @@ static size_t common_length(void)
     size_t length = traces[0].length;
     for (int r = 1; r < RUNS; r++) {
         size_t i = 0;
-        while (i < length && i < traces[r].length && traces[r].pc[i] == traces[0].pc[i])
+        while (i < length && i < traces[r].length && (traces[r].pc[i] | NOT_DONE) == (traces[0].pc[i] | NOT_DONE))
             i++;
         length = i;
     }
@@ -399,7 +396,7 @@ static const char *step_text(const place *at)
 static const char *place_text(uint32_t pc)
 {
     static char text[128];
-    const symbol *f = x86_function(machine, pc);
+    const symbol *f = emulator_function(machine, pc);
     snprintf(text, sizeof text, "%s+0x%" PRIx64, f->name, pc - f->address);
     return text;
 }
@@ -558,7 +555,7 @@ static void look_at_byte(const series *v, uint32_t pc)
  * register that is new in some run, and of each store. */
 static void look_at_values(size_t length)
 {
-    static uint8_t file[RUNS][REGISTERS][16];
+    static uint8_t file[RUNS][MAX_REGISTERS][16];
     static size_t next[RUNS];
     memset(file, 0, sizeof file);
     memset(next, 0, sizeof next);
@@ -581,8 +578,8 @@ static void look_at_values(size_t length)
             }
         }
         series v;
-        for (unsigned where = 0; where < REGISTERS; where++)
-            for (unsigned byte = 0; changed >> where & 1 && byte < (where < 16 ? 8 : 16); byte++) {
+        for (size_t where = 0; where < machine->registers; where++)
+            for (unsigned byte = 0; changed >> where & 1 && byte < machine->len[where]; byte++) {
                 for (int r = 0; r < RUNS; r++)
                     v.run[r] = file[r][where][byte];
                 look_at_byte(&v, traces[0].pc[at]);
@@ -665,32 +662,66 @@ static bool follows_one_share(const uint64_t address[RUNS])
     return false;
 }
 
-/* Look-ups that a single share chooses, by instruction, over all tests. */
-static struct {
-    uint32_t pc;
-    uint64_t field, count;
-} look_ups[4096];
-static size_t look_up_count;
+/* What is allowed and told all the same, by instruction, over all tests. */
+typedef struct {
+    struct {
+        uint32_t pc;
+        uint64_t field, times;
+    } at[4096];
+    size_t count;
+} told;
 
-static void note_look_up(uint32_t pc)
+static told look_ups; /* those that a single share chooses */
+static told choices;  /* instructions under a condition that is not the same in all runs */
+
+static void note(told *of, uint32_t pc)
 {
     size_t i = 0;
-    while (i < look_up_count && (look_ups[i].pc != pc || look_ups[i].field != size.field))
+    while (i < of->count && (of->at[i].pc != pc || of->at[i].field != size.field))
         i++;
-    if (i == look_up_count && look_up_count < 4095)
-        look_up_count++;
-    look_ups[i].pc = pc;
-    look_ups[i].field = size.field;
-    look_ups[i].count++;
+    if (i == of->count && of->count < 4095)
+        of->count++;
+    of->at[i].pc = pc;
+    of->at[i].field = size.field;
+    of->at[i].times++;
+}
+
+/* A Cortex-M4 takes one cycle for these, whether their condition holds or not. */
+static bool takes_one_cycle(const char *text)
+{
+    static const char *const names[] = {"mov", "mvn", "and", "orr", "eor",  "bic",  "add", "sub",
+                                        "rsb", "lsl", "lsr", "asr", "uxtb", "uxth", "ubfx"};
+    for (size_t i = 0; i < sizeof names / sizeof *names; i++)
+        if (strncmp(text, names[i], strlen(names[i])) == 0)
+            return true;
+    return false;
+}
+
+/* Whether an instruction is done in some of the runs only. */
+static bool is_choice(size_t at)
+{
+    for (int r = 1; r < RUNS; r++)
+        if (traces[r].pc[at] != traces[0].pc[at])
+            return true;
+    return false;
 }
 
 static void test_branches(const char *inputs_text)
 {
-    size_t length = common_length();
+    size_t length = common_length(), chosen = 0;
+    for (size_t at = 0; at < length; at++) {
+        uint32_t pc = traces[0].pc[at] & ~NOT_DONE;
+        if (!is_choice(at))
+            continue;
+        chosen++;
+        note(&choices, pc);
+        if (!takes_one_cycle(trace_text(pc)))
+            finding("%s (%s) is done in some runs only, and takes longer then", place_text(pc), trace_text(pc));
+    }
     if (!all_alike())
         finding("what follows %s (%s) is not the same in all runs", place_text(traces[0].pc[length - 1]),
                 trace_text(traces[0].pc[length - 1]));
-    verdict("branches, %s (%zu instructions)", inputs_text, length);
+    verdict("branches, %s (%zu instructions, %zu done or not by a condition)", inputs_text, length, chosen);
 }
 
 static void test_addresses(const char *inputs_text)
@@ -702,48 +733,58 @@ static void test_addresses(const char *inputs_text)
     for (size_t i = 0; i < traces[0].touch_count && traces[0].touches[i].at < length; i++) {
         const touch *t = &traces[0].touches[i];
         uint64_t address[RUNS];
-        bool same = true;
+        bool same = true, in_all = true;
         for (int r = 0; r < RUNS; r++) {
-            address[r] = traces[r].touches[i].address;
+            in_all = in_all && i < traces[r].touch_count && traces[r].touches[i].at == t->at;
+            address[r] = in_all ? traces[r].touches[i].address : 0;
             same = same && address[r] == t->address;
+        }
+        uint32_t pc = traces[0].pc[t->at];
+        if (!in_all) {
+            finding("%s (%s) reads or writes in some runs only", place_text(pc), trace_text(pc));
+            break;
         }
         if (same)
             continue;
-        uint32_t pc = traces[0].pc[t->at];
         if (t->write)
             finding("%s (%s) writes at an address that depends on shares", place_text(pc), trace_text(pc));
         else if (!follows_one_share(address))
             finding("%s (%s) reads at an address that no single share decides", place_text(pc), trace_text(pc));
         else
-            single++, note_look_up(pc);
+            single++, note(&look_ups, pc);
     }
     verdict("addresses, %s (%zu look-ups by a single share)", inputs_text, single);
 }
 
-static void print_look_ups(void)
+static void print(const char *what, const told *of)
 {
-    printf("look-ups in a table by a single share, over all tests:%s\n", look_up_count == 0 ? " none" : "");
-    for (size_t i = 0; i < look_up_count; i++)
-        printf("    F%" PRIu64 " %s (%s): %" PRIu64 " times\n", look_ups[i].field, place_text(look_ups[i].pc),
-               trace_text(look_ups[i].pc), look_ups[i].count);
+    printf("%s, over all tests:%s\n", what, of->count == 0 ? " none" : "");
+    for (size_t i = 0; i < of->count; i++)
+        printf("    F%" PRIu64 " %s (%s): %" PRIu64 " times\n", of->at[i].field, place_text(of->at[i].pc),
+               trace_text(of->at[i].pc), of->at[i].times);
 }
 
 /* ---- All of it ---- */
 
-/* Some emulators tell of the first store to a page only. */
+/* Some emulators tell of the first read or store of a page only. */
 static void test_emulator(void)
 {
-    uint8_t bytes[64] = {0};
+    uint8_t ones[64], zeros[64] = {0};
+    memset(ones, 1, sizeof ones);
     for (int turn = 0; turn < 2; turn++) {
-        size_t told = 0;
-        x86_reset(machine);
-        uint64_t at = x86_lend(machine, bytes, sizeof bytes);
-        trace_call(machine, "memset", (uint64_t[]){at, 1, sizeof bytes}, 3, true, &traces[0]);
-        for (size_t i = 0; i < traces[0].change_count; i++)
-            for (size_t k = 0; k < traces[0].changes[i].len; k++)
-                told += traces[0].changes[i].where == STORE && traces[0].changes[i].bytes[k] == 1;
-        if (told != sizeof bytes) {
-            printf("this emulator does not tell of every store\n");
+        const trace *t = &traces[0];
+        size_t read = 0, stored = 0, told = 0;
+        emulator_reset(machine);
+        uint64_t from = emulator_lend(machine, ones, sizeof ones), to = emulator_lend(machine, zeros, sizeof zeros);
+        trace_call(machine, "copy_one_by_one", 0, (uint64_t[]){to, from, sizeof ones}, 3, true, &traces[0]);
+        for (size_t i = 0; i < t->touch_count; i++) {
+            read += !t->touches[i].write && t->touches[i].address - from < sizeof ones;
+            stored += t->touches[i].write && t->touches[i].address - to < sizeof zeros;
+        }
+        for (size_t i = 0; i < t->change_count; i++)
+            told += t->changes[i].where == STORE && t->changes[i].len == 1 && t->changes[i].bytes[0] == 1;
+        if (read != sizeof ones || stored != sizeof ones || told != sizeof ones) {
+            printf("this emulator does not tell of every read and store\n");
             exit(2);
         }
     }
@@ -792,7 +833,7 @@ int main(int argc, char **argv)
 {
     if (argc != 3 && argc != 5)
         return 2;
-    machine = x86_open(argv[1]);
+    machine = emulator_open(argv[1]);
     trace_open(machine, argv[2]);
     test_emulator();
     for (size.field = 16; size.field <= 256; size.field += 240)
@@ -801,7 +842,8 @@ int main(int argc, char **argv)
                 if ((argc == 3 || (size.field == strtoull(argv[3], NULL, 10) && size.n == strtoull(argv[4], NULL, 10)))
                     && (size.field == 16 || !scenes[i].wide))
                     test_scene(&scenes[i]);
-    print_look_ups();
+    print("instructions done or not by a condition on a secret", &choices);
+    print("look-ups in a table by a single share", &look_ups);
     printf("%u passed, %u failed\n", passed, failed);
     return failed != 0;
 }

@@ -1,7 +1,9 @@
 /* What compilers expect of a C library, for programs that are linked without one. */
 #pragma GCC optimize("no-tree-loop-distribute-patterns") /* no memcpy that calls memcpy */
-#include <emmintrin.h>
 #include <stddef.h>
+
+#ifndef __arm__ /* a Cortex-M4 has those of its C library */
+typedef char sixteen __attribute__((vector_size(16), aligned(1), may_alias));
 
 typedef struct {
     char byte[8];
@@ -20,10 +22,10 @@ void *memcpy(void *to, const void *from, size_t len)
         size_t i = 0;
         for (; i + 64 < len; i += 64)
             for (size_t j = i; j < i + 64; j += 16)
-                _mm_storeu_si128((__m128i *)(t + j), _mm_loadu_si128((const __m128i *)(f + j)));
+                *(sixteen *)(t + j) = *(const sixteen *)(f + j);
         for (; i + 16 < len; i += 16)
-            _mm_storeu_si128((__m128i *)(t + i), _mm_loadu_si128((const __m128i *)(f + i)));
-        _mm_storeu_si128((__m128i *)(t + len - 16), _mm_loadu_si128((const __m128i *)(f + len - 16)));
+            *(sixteen *)(t + i) = *(const sixteen *)(f + i);
+        *(sixteen *)(t + len - 16) = *(const sixteen *)(f + len - 16);
     } else if (len >= 8) {
         eight last = *(const eight *)(f + len - 8);
         *(eight *)t = *(const eight *)f;
@@ -54,14 +56,14 @@ void *memset(void *to, int byte, size_t len)
 {
     char *t = to;
     if (len >= 16) {
-        __m128i sixteen = _mm_set1_epi8((char)byte);
+        sixteen bytes = (sixteen){0} + (char)byte;
         size_t i = 0;
         for (; i + 64 < len; i += 64)
             for (size_t j = i; j < i + 64; j += 16)
-                _mm_storeu_si128((__m128i *)(t + j), sixteen);
+                *(sixteen *)(t + j) = bytes;
         for (; i + 16 < len; i += 16)
-            _mm_storeu_si128((__m128i *)(t + i), sixteen);
-        _mm_storeu_si128((__m128i *)(t + len - 16), sixteen);
+            *(sixteen *)(t + i) = bytes;
+        *(sixteen *)(t + len - 16) = bytes;
     } else {
         for (size_t i = 0; i < len; i++)
             t[i] = (char)byte;
@@ -76,4 +78,12 @@ int memcmp(const void *a, const void *b, size_t len)
         if (p[i] != q[i])
             return p[i] - q[i];
     return 0;
+}
+#endif
+
+/* So many reads and as many stores: by these an emulator is tried. */
+void copy_one_by_one(volatile char *to, const volatile char *from, size_t len)
+{
+    for (size_t i = 0; i < len; i++)
+        to[i] = from[i];
 }

@@ -2,7 +2,7 @@
  * bench/ordered.c is: what the library's object code is to be like. For right inputs
  * only, and of wide systems only for places after which the system is not short; the
  * steps leave the record as it is. The mutants are this with another rows.h. */
-#define HOLD(v) __asm__("" : "+x"(v))
+#define HOLD(v) __asm__("" : IN_PLACE(v))
 #define HOLD_BYTE(v) __asm__("" : "+r"(v))
 #include "rows.h"
 

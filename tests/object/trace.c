@@ -6,67 +6,7 @@
 
 /* ---- The listing ---- */
 
-/* An operand in memory: base + scale·index + away. -1 is no register. */
-typedef struct {
-    int base, index;
-    uint64_t scale, away;
-} operand;
-
-typedef struct {
-    char *text;
-    operand operands[2];
-    int count;
-} instruction;
-
-#define CODE 0x400000u
-#define MAX_CODE 0x100000u
-static instruction code[MAX_CODE];
-
-static const char *const general[16] = {"rax", "rbx", "rcx", "rdx", "rsi", "rdi", "rbp", "rsp",
-                                        "r8",  "r9",  "r10", "r11", "r12", "r13", "r14", "r15"};
-
-/* The register that stands at p, without its %. */
-static int register_at(const char *p, size_t len)
-{
-    for (int i = 0; i < 16; i++)
-        if (strlen(general[i]) == len && strncmp(general[i], p, len) == 0)
-            return i;
-    fprintf(stderr, "listing: a register that is not known: %.*s\n", (int)len, p);
-    exit(2);
-}
-
-/* An operand as objdump writes it, -0x8(%rax,%rbx,4); p is at the bracket. */
-static operand operand_at(const char *text, const char *p)
-{
-    operand o = {-1, -1, 1, 0};
-    const char *from = p;
-    while (from > text && strchr("-0123456789abcdefx", from[-1]) != NULL)
-        from--;
-    o.away = *from == '-' ? -strtoull(from + 1, NULL, 16) : strtoull(from, NULL, 16);
-    p++;
-    if (*p == '%') {
-        size_t len = strcspn(++p, ",)");
-        o.base = register_at(p, len);
-        p += len;
-    }
-    if (*p == ',') {
-        size_t len = strcspn(p += 2, ",)");
-        o.index = register_at(p, len);
-        p += len;
-        o.scale = *p == ',' ? strtoull(p + 1, NULL, 10) : 1;
-    }
-    return o;
-}
-
-static void read_operands(instruction *i)
-{
-    /* no access to memory: lea computes, nop does nothing */
-    if (strncmp(i->text, "lea", 3) == 0 || strstr(i->text, "nop") != NULL)
-        return;
-    for (const char *p = i->text; (p = strchr(p, '(')) != NULL; p++)
-        if (strncmp(p, "(%rip)", 6) != 0)
-            i->operands[i->count++] = operand_at(i->text, p);
-}
+static char *text[CODE_END - CODE];
 
 static void read_listing(const char *file)
 {
@@ -78,27 +18,47 @@ static void read_listing(const char *file)
     }
     while (fgets(line, sizeof line, f) != NULL) {
         uint64_t address = strtoull(line, &end, 16);
-        if (line[0] != ' ' || *end != ':' || address - CODE >= MAX_CODE)
+        if (line[0] != ' ' || *end != ':' || address - CODE >= CODE_END - CODE)
             continue;
-        instruction *i = &code[address - CODE];
-        line[strcspn(line, "#\n")] = 0;
-        i->text = strdup(end + 1 + strspn(end + 1, " \t"));
-        read_operands(i);
+        line[strcspn(line, "\n")] = 0;
+        text[address - CODE] = strdup(end + 1 + strspn(end + 1, " \t"));
     }
     fclose(f);
 }
 
 const char *trace_text(uint32_t pc)
 {
-    return code[pc - CODE].text;
+    pc &= ~NOT_DONE;
+    return text[pc - CODE] == NULL ? "not in the listing" : text[pc - CODE];
+}
+
+/* How many instructions an instruction puts under a condition: as many as Thumb's IT has letters after its I. */
+static size_t conditional_after(uint32_t pc)
+{
+    const char *p = text[pc - CODE];
+    if (p == NULL || strncmp(p, "it", 2) != 0)
+        return 0;
+    size_t letters = strspn(p + 1, "te");
+    return p[1 + letters] == '\t' ? letters : 0;
+}
+
+static uint32_t next_in_listing(uint32_t pc)
+{
+    do
+        pc += 2;
+    while (text[pc - CODE] == NULL);
+    return pc;
 }
 
 /* ---- The trace ---- */
 
 typedef struct {
+    emulator *e;
     trace *t;
     bool values;
-    uint64_t before[REGISTERS][2];
+    uint64_t before[MAX_REGISTERS][2];
+    uint32_t conditional; /* the next instruction that is under a condition, */
+    size_t left;          /* and how many are */
 } tracer;
 
 static tracer tracing; /* the call that is traced */
@@ -119,85 +79,72 @@ static void new_change(trace *t, uint32_t at, uint8_t where, uint8_t len, const 
     memcpy(c->bytes, bytes, len);
 }
 
-static const int numbers[16] = {UC_X86_REG_RAX, UC_X86_REG_RBX, UC_X86_REG_RCX, UC_X86_REG_RDX,
-                                UC_X86_REG_RSI, UC_X86_REG_RDI, UC_X86_REG_RBP, UC_X86_REG_RSP,
-                                UC_X86_REG_R8,  UC_X86_REG_R9,  UC_X86_REG_R10, UC_X86_REG_R11,
-                                UC_X86_REG_R12, UC_X86_REG_R13, UC_X86_REG_R14, UC_X86_REG_R15};
-
 /* Notes the registers that the instruction before has changed. */
 static void note_registers(uc_engine *uc, tracer *r)
 {
-    int all[REGISTERS];
-    uint64_t now[REGISTERS][2] = {{0}};
-    void *to[REGISTERS];
-    for (int i = 0; i < REGISTERS; i++) {
-        all[i] = i < 16 ? numbers[i] : UC_X86_REG_XMM0 + i - 16;
+    uint64_t now[MAX_REGISTERS][2] = {{0}};
+    void *to[MAX_REGISTERS];
+    for (size_t i = 0; i < r->e->registers; i++)
         to[i] = now[i];
-    }
-    uc_reg_read_batch(uc, all, to, REGISTERS);
-    for (int i = 0; i < REGISTERS; i++)
+    uc_reg_read_batch(uc, r->e->number, to, (int)r->e->registers);
+    for (size_t i = 0; i < r->e->registers; i++)
         if (now[i][0] != r->before[i][0] || now[i][1] != r->before[i][1]) {
             memcpy(r->before[i], now[i], 16);
             if (r->t->length > 0)
-                new_change(r->t, (uint32_t)r->t->length - 1, (uint8_t)i, i < 16 ? 8 : 16, now[i]);
+                new_change(r->t, (uint32_t)r->t->length - 1, (uint8_t)i, r->e->len[i], now[i]);
         }
 }
 
-static uint64_t general_register(uc_engine *uc, int number)
+static void new_instruction(trace *t, uint32_t pc)
 {
-    uint64_t v = 0;
-    if (number >= 0)
-        uc_reg_read(uc, numbers[number], &v);
-    return v;
+    GROW(t->pc, t->length, t->pc_room)
+    t->pc[t->length++] = pc;
 }
 
+/* The emulator does not tell of an instruction whose condition does not hold; the machine goes over it all the same. */
 static void on_instruction(uc_engine *uc, uint64_t address, uint32_t size, void *the_tracer)
 {
     (void)size;
     tracer *r = the_tracer;
-    trace *t = r->t;
     if (r->values)
         note_registers(uc, r);
-    const instruction *i = &code[address - CODE];
-    if (i->text == NULL) {
-        fprintf(stderr, "listing: no instruction at %#lx\n", (unsigned long)address);
-        exit(2);
+    for (; r->left > 0 && r->conditional != address; r->left--) {
+        new_instruction(r->t, r->conditional | NOT_DONE);
+        r->conditional = next_in_listing(r->conditional);
     }
-    for (int k = 0; k < i->count; k++) {
-        const operand *o = &i->operands[k];
-        GROW(t->touches, t->touch_count, t->touch_room)
-        t->touches[t->touch_count++] =
-            (touch){(uint32_t)t->length, false,
-                    general_register(uc, o->base) + general_register(uc, o->index) * o->scale + o->away};
-    }
-    GROW(t->pc, t->length, t->pc_room)
-    t->pc[t->length++] = (uint32_t)address;
+    new_instruction(r->t, (uint32_t)address);
+    if (r->left > 0) {
+        r->left--;
+        r->conditional = next_in_listing(r->conditional);
+    } else if ((r->left = conditional_after((uint32_t)address)) > 0)
+        r->conditional = next_in_listing((uint32_t)address);
 }
 
-static void on_store(uc_engine *uc, uc_mem_type type, uint64_t address, int size, int64_t value, void *the_tracer)
+static void on_touch(uc_engine *uc, uc_mem_type type, uint64_t address, int size, int64_t value, void *the_tracer)
 {
-    (void)uc, (void)type;
+    (void)uc;
     tracer *r = the_tracer;
     trace *t = r->t;
     uint32_t at = (uint32_t)t->length - 1;
-    for (size_t i = t->touch_count; i > 0 && t->touches[i - 1].at == at; i--)
-        if (t->touches[i - 1].address == address)
-            t->touches[i - 1].write = true;
-    if (r->values)
+    GROW(t->touches, t->touch_count, t->touch_room)
+    t->touches[t->touch_count++] = (touch){at, type == UC_MEM_WRITE, address};
+    if (r->values && type == UC_MEM_WRITE)
         new_change(t, at, STORE, (uint8_t)size, &value);
 }
 
-void trace_open(x86 *x, const char *listing)
+void trace_open(emulator *e, const char *listing)
 {
     uc_hook hook;
     read_listing(listing);
-    uc_hook_add(x->uc, &hook, UC_HOOK_CODE, (void *)on_instruction, &tracing, 1, 0);
-    uc_hook_add(x->uc, &hook, UC_HOOK_MEM_WRITE, (void *)on_store, &tracing, 1, 0);
+    tracing.e = e;
+    uc_hook_add(e->uc, &hook, UC_HOOK_CODE, (void *)on_instruction, &tracing, 1, 0);
+    uc_hook_add(e->uc, &hook, UC_HOOK_MEM_READ | UC_HOOK_MEM_WRITE, (void *)on_touch, &tracing, 1, 0);
 }
 
-uint64_t trace_call(x86 *x, const char *function, const uint64_t *arguments, size_t count, bool values, trace *t)
+uint64_t trace_call(emulator *e, const char *function, size_t numbers, const uint64_t *arguments, size_t count,
+                    bool values, trace *t)
 {
-    tracing = (tracer){.t = t, .values = values};
+    tracing = (tracer){.e = e, .t = t, .values = values};
     t->length = t->touch_count = t->change_count = 0;
-    return x86_call(x, function, arguments, count);
+    return emulator_call(e, function, numbers, arguments, count);
 }

@@ -2,12 +2,11 @@
 #ifndef TRACE_H
 #define TRACE_H
 
-#include "x86.h"
+#include "emulator.h"
 
 #include <stdbool.h>
 
-#define REGISTERS 32 /* 16 general ones, then 16 of xmm */
-#define STORE REGISTERS
+#define STORE MAX_REGISTERS
 
 /* A register that is new, or bytes stored, by instruction number `at`. */
 typedef struct {
@@ -17,12 +16,15 @@ typedef struct {
     uint8_t bytes[16];
 } change;
 
-/* An address that an instruction makes of registers, to read or write there. */
+/* A read or a write by instruction number `at`. */
 typedef struct {
     uint32_t at;
     bool write;
     uint64_t address;
 } touch;
+
+/* Beside an instruction that a condition kept from being carried out. */
+#define NOT_DONE 0x80000000u
 
 typedef struct {
     uint32_t *pc; /* of each instruction */
@@ -33,14 +35,15 @@ typedef struct {
     size_t change_count, change_room;
 } trace;
 
-/* Once, before the calls. The listing is what objdump -d tells of the program: it
- * names the operands in memory. */
-void trace_open(x86 *x, const char *listing);
+/* Once, before the calls. The listing is what objdump -d tells of the program. */
+void trace_open(emulator *e, const char *listing);
 
 /* The text of an instruction. */
 const char *trace_text(uint32_t pc);
 
-/* Calls a function and fills the trace, which may hold an earlier one. */
-uint64_t trace_call(x86 *x, const char *function, const uint64_t *arguments, size_t count, bool values, trace *t);
+/* Calls a function, as emulator_call does, and fills the trace, which may hold an
+ * earlier one. */
+uint64_t trace_call(emulator *e, const char *function, size_t numbers, const uint64_t *arguments, size_t count,
+                    bool values, trace *t);
 
 #endif
