@@ -92,6 +92,15 @@ machine_layout() { # TARGET
     echo | "$(kit_compiler)" $(machine_words "$1") -x c - -S -emit-llvm -o - 2>/dev/null | grep '^target '
 }
 
+# Whether the kit's compiler has a machine, so that nothing is built in vain. Where there is no kit at all, building tells.
+has_target() { # TARGET
+    [ "$1" = x86_64 ] || [ ! -x "$rt" ] || machine_layout "$1" >/dev/null
+}
+
+compiler_name() {
+    "$(kit_compiler)" --version 2>/dev/null | head -n 1
+}
+
 # The module as text for a machine. `module.ll` names x86-64 in three ways: its triple, its data layout and its processor. A length has 64 bits in
 # it; where size_t has 32 its calls get other names, and build/face is between them and the header's.
 module_for() { # TARGET LAYOUT
@@ -127,7 +136,7 @@ make_target() { # TARGET FOLDER
     ! target_key "$1" "$2" 2>/dev/null | cmp -s - "$2/key" || return 0
     tools=$(dirname "$(kit_compiler)")
     if ! layout=$(machine_layout "$1"); then
-        echo "the kit's compiler, $("$tools/clang" --version | head -n 1), has no $1" >&2
+        echo "the kit's compiler ($(compiler_name)) does not have $1" >&2
         return 1
     fi
     rm -rf "$2"

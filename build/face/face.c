@@ -3,6 +3,9 @@
 #include <stddef.h>
 #include <stdint.h>
 
+/* No call has an enumeration, a wchar_t or a number of floating point in it: so the archive suits programs of every such setting. */
+__asm__(".eabi_attribute 18, 0\n.eabi_attribute 26, 0\n.eabi_attribute 28, 3");
+
 #define hz_start hz_start_64
 #define hz_wanted hz_wanted_64
 #define hz_step hz_step_64
