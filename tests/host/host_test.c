@@ -1,34 +1,46 @@
 /* Compares every call of the library with the model, on many inputs.
  *
- *     host_test [SEED [CASE | square | wide]]
+ *     host_test [SEED [CASE | square | wide | sizes]]
  *
  * SEED is 1 where none is given. With CASE only that case is run: each case's
  * numbers come from the seed and the case's own number alone. With square or wide
- * only the cases of such systems are run; those of wide ones are in wide_test.h. The
+ * only the cases of such systems are run; those of wide ones are in wide_test.h. With
+ * sizes a right system of every size is solved, which is no part of the rest. The
  * first difference is printed as one line and ends the run. */
-#define _DEFAULT_SOURCE /* for mmap */
 #include "hostozaro.h"
 #include "model.h"
+#include "room.h"
 
 #include <inttypes.h>
-#include <signal.h>
 #include <stdbool.h>
 #include <stdio.h>
 #include <stdlib.h>
 #include <string.h>
-#include <sys/mman.h>
+
+#ifndef RUNNER /* the command that runs this program */
+#define RUNNER "tests/host/run"
+#endif
 
 #define RANDOM_CASES 16000
 #define MAX_TABLE (96 * 97 * 4)
 #define MAX_MASK 3820512 /* F256, n = 4, m = 96 */
 #define MAX_NONZERO (96 * 3)
 #define MAX_WIDE_TABLE (96 * 145 * 4)
+#ifndef MAX_WIDE_MASK /* a board holds less; what wants more is left out there */
 #define MAX_WIDE_MASK 12528144 /* n = 4, 96 rows, 144 columns */
+#endif
+_Static_assert(MAX_WIDE_MASK >= MAX_MASK, "the mask tape of every square system has room");
 #define MAX_TOLD 65535 /* the longest body that an exchange record can tell of */
 #define SPARE 4096 /* how much longer than right one fault makes a buffer */
 #define ROOM (4 * SPARE)
 #define GUARD 32
 #define PAGE 65536 /* a multiple of every machine's page */
+
+/* Lengths that are huge, and small ones in half of their bits, in all but the highest, or as
+ * bytes of that many words. */
+#define HALF_WORD ((size_t)1 << 4 * sizeof(size_t))
+#define TOP_BIT ((size_t)1 << (8 * sizeof(size_t) - 1))
+#define WORDS_WRAP ((size_t)1 << (8 * sizeof(size_t) - 3))
 
 /* ---- Random numbers ---- */
 
@@ -104,11 +116,9 @@ static uint8_t *make_copy(const buffer *b)
 
 static void make_buffer(buffer *b)
 {
-    size_t room = (GUARD + b->capacity * b->width + PAGE - 1) / PAGE * PAGE;
-    uint8_t *block = mmap(NULL, room + PAGE, PROT_READ | PROT_WRITE, MAP_PRIVATE | MAP_ANONYMOUS, -1, 0);
-    if (block == MAP_FAILED || mprotect(block + room, PAGE, PROT_NONE) != 0)
+    b->page = guarded_room(GUARD + b->capacity * b->width);
+    if (b->page == NULL)
         exit(2);
-    b->page = block + room;
     b->lent = make_copy(b);
     b->model = make_copy(b);
 }
@@ -219,25 +229,26 @@ static void difference(void)
     else
         printf(" field %" PRIu64 " shares %" PRIu64 " size %" PRIu64, field, shares, size);
     for (buffer *const *b = kinds[last_kind].lent; *b != NULL; b++) {
-        printf(" %s[%zu]", (*b)->name, (*b)->len + (*b)->more);
+        /* as unsigned long: not every board's printf knows of size_t */
+        printf(" %s[%lu]", (*b)->name, (unsigned long)((*b)->len + (*b)->more));
         if ((*b)->more != 0)
-            printf(" (%zu there)", (*b)->len);
+            printf(" (%lu there)", (unsigned long)(*b)->len);
     }
     printf(": ");
 }
 
 static void end_failed(void)
 {
-    printf(" (repeat: tests/host/run %" PRIu64 " %" PRIu64 ")\n", seed, case_number);
+    printf(" (repeat: " RUNNER " %" PRIu64 " %" PRIu64 ")\n", seed, case_number);
     printf("%" PRIu64 " passed, 1 failed\n", calls - 1);
     exit(1);
 }
 
 /* A crash is told in the same way. */
-static void crashed(int signal_number)
+static void crashed(const char *how)
 {
     difference();
-    printf("signal %d", signal_number);
+    printf("%s", how);
     end_failed();
 }
 
@@ -566,6 +577,8 @@ static void make_input(void)
 
 static void make_mask(size_t len)
 {
+    if (len > mask.capacity)
+        exit(2);
     mask.len = len;
     fill(mask.lent, len);
     if (one_in(16))
@@ -802,7 +815,7 @@ static void spoil(void)
 /* ---- Cases ---- */
 
 static uint8_t first_table[MAX_TABLE], stepped_table[MAX_TABLE], dealt_values[MAX_TABLE];
-static uint8_t whole_mask[MAX_MASK], whole_nonzero[MAX_NONZERO];
+static uint8_t whole_mask[MAX_WIDE_MASK], whole_nonzero[MAX_NONZERO];
 
 /* Any numbers and lengths to every call. */
 static void case_numbers(void)
@@ -1360,8 +1373,8 @@ static void one_wrong_length(const length *rule, uint64_t step, void make(int, u
     buffer *b = rule->lent;
     make(kind, step);
     size_t right = b->len;
-    size_t wrong[] = {0, right - 1, right + 1, right + 16, right + PAGE, (size_t)1 << 32, ((size_t)1 << 32) + right,
-                      (size_t)1 << 63, SIZE_MAX - 1, SIZE_MAX};
+    size_t wrong[] = {0, right - 1, right + 1, right + 16, right + PAGE, HALF_WORD, HALF_WORD + right, TOP_BIT,
+                      SIZE_MAX - 1, SIZE_MAX};
     for (size_t i = 0; i < sizeof wrong / sizeof wrong[0]; i++) {
         if (wrong[i] == right)
             continue;
@@ -1418,7 +1431,7 @@ static void nothing_there(void)
         *given[number - 1] = kept;
         words(&record)[number - 1] = kept;
     }
-    size_t wrong[] = {0, 3, 5, 6, 7, 9, (size_t)1 << 32, ((size_t)1 << 61) + 4, ((size_t)1 << 61) + 8, SIZE_MAX};
+    size_t wrong[] = {0, 3, 5, 6, 7, 9, HALF_WORD, WORDS_WRAP + 4, WORDS_WRAP + 8, SIZE_MAX};
     for (size_t i = 0; i < sizeof wrong / sizeof wrong[0]; i++)
         for (int kind = 0; kind < SQUARE_KINDS; kind++) {
             claim(&answer, wrong[i], 0);
@@ -1613,7 +1626,7 @@ enum { NO_ZERO_DRAW, ZERO_DRAW_NEEDED, ZERO_DRAW_BEYOND, ZERO_DRAWS };
  * be. The number is 0 where the call accepts the length. */
 static void change_tape(buffer *tape, int how, uint64_t shorter, uint64_t longer)
 {
-    static const size_t much[] = {2, 16, 256, SPARE, PAGE, (size_t)1 << 32, (size_t)1 << 63};
+    static const size_t much[] = {2, 16, 256, SPARE, PAGE, HALF_WORD, TOP_BIT};
     size_t right = tape->len, more = how == ONE_LONG ? 1 : much[below(sizeof much / sizeof much[0])];
     uint64_t number = how == ONE_SHORT ? shorter : how == RIGHT_LENGTH ? 0 : longer;
     if (number != 0)
@@ -3597,6 +3610,31 @@ static bool tell_flags(void)
     return fewest >= 1000;
 }
 
+/* The numbers by which each square call can refuse. */
+static const uint64_t refusals_of[SQUARE_KINDS][17] = {
+    [START] = {1, 2, 3},
+    [WANTED] = {1, 2, 3, 10, 19, 11},
+    [STEP] = {1, 2, 3, 4, 5, 10, 19, 11, 6, 7, 14, 8, 15, 9, 20, 12},
+    [SOLVE] = {1, 2, 3, 4, 5, 6, 7, 8, 9},
+    [PLAIN] = {1, 3, 4, 5, 6},
+    [DEAL] = {1, 2, 3, 4, 5, 6, 7},
+    [GATHER] = {1, 2, 3, 4, 5, 6},
+    [COUNTS] = {1, 2, 3},
+    [WRITE] = {1, 2, 3, 4, 5, 6},
+    [READ] = {16, 17, 18, 1, 2, 3, 4, 6},
+};
+
+/* Tells how often the rarest refusal came up. False where that was seldom. */
+static bool tell_refusals(void)
+{
+    uint64_t fewest = UINT64_MAX;
+    for (int kind = 0; kind < SQUARE_KINDS; kind++)
+        for (const uint64_t *number = refusals_of[kind]; *number != 0; number++)
+            fewest = refused_by[kind][*number] < fewest ? refused_by[kind][*number] : fewest;
+    printf("each refusal of each square call came up at least %" PRIu64 " times\n", fewest);
+    return fewest >= 100;
+}
+
 /* What a run of all square systems must have gone through. */
 static void look_back(void)
 {
@@ -3612,6 +3650,7 @@ static void look_back(void)
     printf("%" PRIu64 " records of a right place had wrong counters\n", counters_refused);
     bool often = tell_flags();
     often &= tell_lifts();
+    often &= tell_refusals();
     if (systems >= 20000 && 2 * singular_systems == systems && all_met && made_up_records >= 50000 && often)
         return;
     printf("these are too few, or not half, or a column of some size was never the first, or a kind of place never had "
@@ -3711,7 +3750,58 @@ static const kind_of_case square_cases[] = {
 
 #include "wide_test.h"
 
-enum { SQUARE, WIDE, PARTS };
+/* ---- Every size ----
+ *
+ * Regular systems of every size, solved whole: of case_of_sizes and case_of_wide_solves many
+ * have a fault, or are small. Small ones are solved in each field and number of shares, and
+ * wide ones have as many columns as there is room for. */
+
+static bool size_solved[97];
+
+static void case_of_every_size(uint64_t i)
+{
+    field = i % 2 == 0 ? 16 : 256;
+    shares = 2 + i / 2 % 3;
+    size = 1 + i / 6;
+    if (size > 16 && size % 6 != i % 6)
+        return;
+    compare_ways(0);
+    size_solved[size] = true;
+}
+#define EVERY_SIZE (2 * 3 * 96)
+
+#define ROWS_APART 16
+static void case_of_every_width(uint64_t i)
+{
+    field = 16;
+    shares = 2 + i % 3;
+    rows = ROWS_APART * (1 + i / 3);
+    columns = 144;
+    while (columns > rows && model_wide_mask_draws(shares, rows, columns) > MAX_WIDE_MASK)
+        columns--;
+    wide_solve_of(rows);
+}
+#define EVERY_WIDTH (3 * (96 / ROWS_APART))
+
+static const kind_of_case size_cases[] = {
+    {EVERY_SIZE, case_of_every_size},
+    {EVERY_WIDTH, case_of_every_width},
+};
+
+static void look_back_sizes(void)
+{
+    tell_left_out();
+    tell_longest();
+    for (int m = 1; m <= 96; m++)
+        if (!size_solved[m]) {
+            printf("size %d was not solved\n", m);
+            printf("%" PRIu64 " passed, 1 failed\n", calls);
+            exit(1);
+        }
+    printf("every size from 1 to 96 was solved, up to 16 in each field and number of shares\n");
+}
+
+enum { SQUARE, WIDE, SIZES, PARTS };
 
 static const struct {
     const kind_of_case *kinds;
@@ -3720,6 +3810,7 @@ static const struct {
 } parts[PARTS] = {
     [SQUARE] = {square_cases, sizeof square_cases / sizeof square_cases[0], look_back},
     [WIDE] = {wide_cases, sizeof wide_cases / sizeof wide_cases[0], look_back_wide},
+    [SIZES] = {size_cases, sizeof size_cases / sizeof size_cases[0], look_back_sizes},
 };
 
 /* The number of a part's first case. */
@@ -3759,16 +3850,15 @@ static void run_part(int part)
 int main(int argc, char **argv)
 {
     buffer *all[] = {&table, &solution, &values, &mask, &nonzero, &target, &input, &record, &wide_record, &answer};
-    int signals[] = {SIGSEGV, SIGBUS, SIGILL, SIGFPE, SIGABRT};
-    for (size_t i = 0; i < sizeof signals / sizeof signals[0]; i++)
-        signal(signals[i], crashed);
+    tell_crashes(crashed);
     if (argc > 1)
         seed = strtoull(argv[1], NULL, 10);
     for (size_t i = 0; i < sizeof all / sizeof all[0]; i++)
         make_buffer(all[i]);
     bool square_alone = argc > 2 && strcmp(argv[2], "square") == 0;
     bool wide_alone = argc > 2 && strcmp(argv[2], "wide") == 0;
-    if (argc > 2 && !square_alone && !wide_alone) {
+    bool sizes_alone = argc > 2 && strcmp(argv[2], "sizes") == 0;
+    if (argc > 2 && !square_alone && !wide_alone && !sizes_alone) {
         case_number = strtoull(argv[2], NULL, 10);
         if (!run_case()) {
             printf("there is no case %" PRIu64 "\n", case_number);
@@ -3779,6 +3869,8 @@ int main(int argc, char **argv)
         run_part(SQUARE);
     if (argc <= 2 || wide_alone)
         run_part(WIDE);
+    if (sizes_alone)
+        run_part(SIZES);
     printf("%" PRIu64 " passed, 0 failed\n", calls);
     return 0;
 }

@@ -7,7 +7,6 @@
  * along the list. */
 
 static uint8_t wide_first_table[MAX_WIDE_TABLE], wide_stepped_table[MAX_WIDE_TABLE];
-static uint8_t wide_whole_mask[MAX_WIDE_MASK];
 
 /* ---- Systems ---- */
 
@@ -581,7 +580,7 @@ static void take_wide_part(const wide_place *p)
 {
     mask.len = words(&answer)[0];
     nonzero.len = words(&answer)[1];
-    memcpy(mask.lent, wide_whole_mask + p->mask, mask.len);
+    memcpy(mask.lent, whole_mask + p->mask, mask.len);
     memcpy(nonzero.lent, whole_nonzero + p->nonzero, nonzero.len);
     if (one_in(2)) /* the high bits of a draw say nothing */
         for (size_t i = 0; i < mask.len; i++)
@@ -598,6 +597,43 @@ static void demand_wide_answer(const wide_place *p, uint64_t code)
         told[1] = known_wide_x[p->j - 1];
     }
     demand(code == wanted && memcmp(answer.lent, told, sizeof told) == 0, "another answer than the list's");
+}
+
+/* Of whole solves, by shares from 2: the longest mask tape that there was room for and how
+ * many there was none for. A board may have less room than the longest of all. */
+static struct {
+    uint64_t mask, rows, columns, left_out;
+} longest[3];
+
+static bool mask_has_room(void)
+{
+    uint64_t wanted = model_wide_mask_draws(shares, rows, columns);
+    if (wanted > MAX_WIDE_MASK) {
+        longest[shares - 2].left_out++;
+        return false;
+    }
+    if (wanted > longest[shares - 2].mask) {
+        longest[shares - 2].mask = wanted;
+        longest[shares - 2].rows = rows;
+        longest[shares - 2].columns = columns;
+    }
+    return true;
+}
+
+static void tell_left_out(void)
+{
+    for (int n = 2; n <= 4; n++)
+        if (longest[n - 2].left_out > 0)
+            printf("with %d shares %" PRIu64 " wide solves were left out, whose mask tapes have more than %d bytes\n",
+                   n, longest[n - 2].left_out, MAX_WIDE_MASK);
+}
+
+static void tell_longest(void)
+{
+    for (int n = 2; n <= 4; n++)
+        printf("the longest mask tape of a wide solve with %d shares had %" PRIu64 " bytes, of %" PRIu64 " by %" PRIu64
+               "\n",
+               n, longest[n - 2].mask, longest[n - 2].rows, longest[n - 2].columns);
 }
 
 /* The whole solve of the table as it stands: against the known pivots and x, the list, and
@@ -625,12 +661,14 @@ static void solve_wide_and_check(void)
 static void wide_trace(uint64_t refusals_one_in)
 {
     uint8_t left[144];
+    if (!mask_has_room())
+        return;
     make_wide_system();
     make_wide_list();
     memcpy(wide_first_table, table.lent, table.len);
     memcpy(left, solution.lent, columns);
     make_tapes(WIDE_SOLVE);
-    memcpy(wide_whole_mask, mask.lent, mask.len);
+    memcpy(whole_mask, mask.lent, mask.len);
     memcpy(whole_nonzero, nonzero.lent, nonzero.len);
     fresh_wide_words();
     demand(call(WIDE_START) == HZ_FRESH, "no fresh record");
@@ -657,7 +695,7 @@ static void wide_trace(uint64_t refusals_one_in)
     memcpy(table.lent, wide_first_table, table.len);
     mask.len = model_wide_mask_draws(shares, rows, columns);
     nonzero.len = rows * (shares - 1);
-    memcpy(mask.lent, wide_whole_mask, mask.len);
+    memcpy(mask.lent, whole_mask, mask.len);
     memcpy(nonzero.lent, whole_nonzero, nonzero.len);
     make_wide_solution();
     solve_wide_and_check();
@@ -700,6 +738,8 @@ static void case_of_wide_runs(uint64_t i)
  * said to be. */
 static void wide_solve_of(uint64_t rank)
 {
+    if (!mask_has_room())
+        return;
     choose_pivots(rank);
     make_wide_system();
     make_wide_list();
@@ -1041,8 +1081,8 @@ static void case_of_wide_numbers(uint64_t i)
  * other fault beside. */
 static void case_of_wide_lengths_of_words(uint64_t i)
 {
-    const size_t huge[] = {AT_32, AT_32 + HZ_WIDE_RECORD_WORDS, AT_32 + HZ_ANSWER_WORDS, ((size_t)1 << 61) + 4,
-                           ((size_t)1 << 61) + HZ_WIDE_RECORD_WORDS, SIZE_MAX};
+    const size_t huge[] = {HALF_WORD, HALF_WORD + HZ_WIDE_RECORD_WORDS, HALF_WORD + HZ_ANSWER_WORDS, WORDS_WRAP + 4,
+                           WORDS_WRAP + HZ_WIDE_RECORD_WORDS, SIZE_MAX};
     set_wide_fault_sizes(i);
     size_t at = place_of_kind(HZ_CHECK);
     record_of(at, words(&wide_record));
@@ -1132,12 +1172,14 @@ static void large_wide_byte(size_t at, uint64_t r, uint64_t c, uint64_t s)
     memcpy(table.lent, wide_first_table, table.len);
     plant_large(&table, at);
     expect(6, r, c, s);
-    make_tapes(WIDE_SOLVE);
-    if (rows < 20) {
-        stretch(&mask, wrong_length(mask.len));
-        stretch(&nonzero, wrong_length(nonzero.len));
+    if (mask_has_room()) {
+        make_tapes(WIDE_SOLVE);
+        if (rows < 20) {
+            stretch(&mask, wrong_length(mask.len));
+            stretch(&nonzero, wrong_length(nonzero.len));
+        }
+        call_expecting(WIDE_SOLVE);
     }
-    call_expecting(WIDE_SOLVE);
     for (size_t kind = 0; kind < WIDE_STEPS; kind++) {
         size_t place = any_wide_of(wide_steps[kind]);
         if (place == wide_list_len || !is_step(wide_steps[kind]))
@@ -1565,6 +1607,7 @@ static void look_back_wide(void)
            "; each refusal of each call at least %" PRIu64 "; Lift took %" PRIu64
            " bytes that Open had not written, and refused %" PRIu64 "\n",
            sum, steps, late, solves, refused, wide_lifts_tampered, wide_lifts_refused);
+    tell_left_out();
     if (sum >= 50000 && steps >= 1000 && late >= 30 && solves >= 400 && refused >= 100 && wide_lifts_tampered >= 1000
         && wide_lifts_refused >= 1000)
         return;
