@@ -195,9 +195,9 @@ static uint64_t single_steps(void)
         uint64_t masks = model_mask_draws(field, n, columns, kind, record[wide ? HZ_WIDE_J : HZ_J]);
         uint64_t nonzeros = model_nonzero_draws(n, kind);
         code = emulator_call(machine, step, 0,
-                             (uint64_t[]){at_record, words, at_table, table_len, at_x, columns, at_mask, masks, at_nonzero,
-                                     nonzeros, at_answer, 4},
-                        12);
+                             (uint64_t[]){at_record, words, at_table, table_len, at_x, columns, at_mask, masks,
+                                          at_nonzero, nonzeros, at_answer, 4},
+                             12);
         sum += machine->counted;
         at_mask += masks;
         at_nonzero += nonzeros;
@@ -426,9 +426,8 @@ static void print_board_counts(void)
             }
     printf("\nThe rows of F256 with n = 2 beside document 001, which has cycles of a Cortex-M4; both in thousands.\n"
            "Its cycles have the making of its random numbers in them, and it mixes only a few rows. Instructions are\n"
-           "not cycles: a load takes 2 cycles where it does not follow another, a taken branch 2 to 4, and so on.\n"
-           "Nothing here is timed. The emulator does not count an instruction that its condition skips, on which the\n"
-           "core spends a cycle: 1 or 2 of a hundred of the library's.\n\n"
+           "not cycles: some take more than one, such as loads and taken branches, and nothing here is timed. The\n"
+           "emulator does not count an instruction that its condition skips: 1 or 2 of a hundred of the library's.\n\n"
            "| m | library, instructions | ordered C, instructions | 001 masked, cycles | 001 unmasked, cycles |\n"
            "|---|---|---|---|---|\n");
     for (int i = 0; i < 3; i++) {

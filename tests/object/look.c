@@ -396,6 +396,7 @@ static const char *step_text(const place *at)
 static const char *place_text(uint32_t pc)
 {
     static char text[128];
+    pc &= ~NOT_DONE;
     const symbol *f = emulator_function(machine, pc);
     snprintf(text, sizeof text, "%s+0x%" PRIx64, f->name, pc - f->address);
     return text;
@@ -686,7 +687,7 @@ static void note(told *of, uint32_t pc)
     of->at[i].times++;
 }
 
-/* A Cortex-M4 takes one cycle for these, whether their condition holds or not. */
+/* A Cortex-M4 is assumed to take one cycle for these, whether their condition holds or not. */
 static bool takes_one_cycle(const char *text)
 {
     static const char *const names[] = {"mov", "mvn", "and", "orr", "eor",  "bic",  "add", "sub",
