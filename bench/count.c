@@ -7,7 +7,7 @@
  * PROGRAM holds the library, the model, the C solves and M4RIE if that is installed; it
  * is emulated. A size is that of a square system, or ROWSxCOLUMNS for a wide one. Where
  * sizes are given, only those are counted, and nothing is set against document 001. With
- * --board PROGRAM is for a Cortex-M4; it has other tables, and one of the stack. */
+ * --board PROGRAM is for a Cortex-M4, and the tables are other ones. */
 #include "hostozaro.h"
 #include "model.h"
 #include "emulator.h"
@@ -438,94 +438,6 @@ static void print_board_counts(void)
     }
 }
 
-/* The lowest that the stack pointer was before an instruction. */
-static uint32_t lowest = UINT32_MAX;
-
-static void look_at_stack(uc_engine *uc, uint64_t address, uint32_t size, void *nothing)
-{
-    (void)address, (void)size, (void)nothing;
-    uint32_t pointer;
-    uc_reg_read(uc, UC_ARM_REG_SP, &pointer);
-    if (pointer < lowest)
-        lowest = pointer;
-}
-
-/* How far below their caller's stack pointer the calls went since the last time. A call
- * leaves the pointer as it was. */
-static uint32_t stack_taken(void)
-{
-    uint32_t pointer, taken;
-    uc_reg_read(machine->uc, UC_ARM_REG_SP, &pointer);
-    taken = pointer - lowest;
-    lowest = UINT32_MAX;
-    return taken;
-}
-
-static void deal_on_board(void)
-{
-    static uint8_t got[MAX_TABLE], dealt[MAX_TABLE];
-    uint64_t draws = entries * (n - 1), answer[4], filled = HZ_FILLED;
-    emulator_reset(machine);
-    at_values = emulator_lend(machine, values, entries);
-    at_table = emulator_lend(machine, table, table_len);
-    at_mask = emulator_lend(machine, mask, draws);
-    at_answer = emulator_lend(machine, empty, 32);
-    uint64_t code = emulator_call(
-        machine, "hz_deal", 3,
-        (uint64_t[]){field, n, rows, at_values, entries, at_table, table_len, at_mask, draws, at_answer, 4}, 11);
-    compare("hz_deal", &code, &filled, sizeof code);
-    model_deal(field, n, rows, values, entries, dealt, table_len, mask, draws, answer, 4);
-    emulator_take(machine, at_table, got, table_len);
-    compare("hz_deal", got, dealt, table_len);
-}
-
-typedef enum { STEP, SOLVE, WIDE_STEP, WIDE_SOLVE, DEAL, PLAIN, STRAIGHT, ORDERED, STACK_COLUMNS } stack_column;
-
-static void note_stack(uint32_t most[STACK_COLUMNS], stack_column of)
-{
-    uint32_t taken = stack_taken();
-    if (taken > most[of])
-        most[of] = taken;
-}
-
-/* No frame grows with the size; but a row of more than 97 columns is joined in two parts,
- * so the wide systems have such rows. */
-static void print_stack_row(uint64_t shares)
-{
-    uint32_t most[STACK_COLUMNS] = {0};
-    for (uint64_t f = 16; f <= 256; f += 240) {
-        make_system(f, shares, 16);
-        single_steps(), note_stack(most, STEP);
-        with_lengths("hz_solve"), note_stack(most, SOLVE);
-        deal_on_board(), note_stack(most, DEAL);
-        plain_engine(), note_stack(most, PLAIN);
-        with_lengths("model_solve"), note_stack(most, STRAIGHT);
-        without_lengths("ordered_solve"), note_stack(most, ORDERED);
-    }
-    make_wide_system(shares, 4, 144, 0);
-    single_steps(), note_stack(most, WIDE_STEP);
-    with_lengths("hz_wide_solve"), note_stack(most, WIDE_SOLVE);
-    printf("| %" PRIu64, shares);
-    for (int i = 0; i < STACK_COLUMNS; i++)
-        printf(" | %" PRIu32, most[i]);
-    printf(" |\n");
-}
-
-/* On a machine of its own, since all else is faster without a look at the stack. */
-static void print_stack(const char *program)
-{
-    uc_hook hook;
-    machine = emulator_open(program);
-    if (uc_hook_add(machine->uc, &hook, UC_HOOK_CODE, (void *)look_at_stack, NULL, 1, 0) != UC_ERR_OK)
-        exit(2);
-    printf("\nBytes of stack below the caller's stack pointer: the most over both fields, and for the step calls over\n"
-           "a whole run.\n\n"
-           "| n | hz_step | hz_solve | hz_wide_step | hz_wide_solve | hz_deal | hz_plain | straightforward C "
-           "| ordered C |\n|---|---|---|---|---|---|---|---|---|\n");
-    for (uint64_t shares = 2; shares <= 4; shares++)
-        print_stack_row(shares);
-}
-
 int main(int argc, char **argv)
 {
     if (argc < 2)
@@ -533,7 +445,6 @@ int main(int argc, char **argv)
     machine = emulator_open(argv[1]);
     if (argc == 3 && strcmp(argv[2], "--board") == 0) {
         print_board_counts();
-        print_stack(argv[1]);
         return 0;
     }
     char *squares[argc], *wides[argc];

@@ -1,6 +1,7 @@
 # Builds programs for a board with a Cortex-M4 and no operating system, and runs them on QEMU's model of one, the mps2-an386. What a program
 # needs of the board is in host_example/board. Sourced from the top of the clone, after build/machine.sh.
-have arm-none-eabi-gcc || install_packages gcc-arm-none-eabi
+cross cortex-m4
+board_compiler=$CROSS
 have qemu-system-arm || install_packages qemu-system-arm
 
 board=host_example/board
@@ -11,7 +12,7 @@ board_compile() { # FROM TO WORDS..
     source=$1 object=$2
     shift 2
     # shellcheck disable=SC2086
-    arm-none-eabi-gcc $board_words -fno-tree-loop-distribute-patterns "$@" -I$board -Iinclude -c "$source" -o "$object"
+    $board_compiler $board_words -fno-tree-loop-distribute-patterns "$@" -I$board -Iinclude -c "$source" -o "$object"
 }
 
 # Links objects with the start-up, the functions on memory and the archive; -lgcc has the division of 64 bits that the archive calls.
@@ -20,7 +21,7 @@ board_link() { # ARCHIVE TO OBJECTS AND WORDS..
     shift 2
     board_compile $board/start.c "$linked.start.o" && board_compile $board/memory.c "$linked.memory.o" || return
     # shellcheck disable=SC2086
-    arm-none-eabi-gcc $board_words -nostdlib -T $board/board.ld -Wl,--gc-sections -z noexecstack \
+    $board_compiler $board_words -nostdlib -T $board/board.ld -Wl,--gc-sections -z noexecstack \
         "$linked.start.o" "$linked.memory.o" "$@" "$library" -lgcc -o "$linked"
 }
 

@@ -23,6 +23,20 @@ have() {
     command -v "$1" >/dev/null 2>&1
 }
 
+# cross TARGET: sets CROSS, a C compiler for AArch64 or for a Cortex-M4, with its C library. On an AArch64 machine gcc has that name too.
+cross() {
+    case $1 in
+    aarch64)
+        CROSS=aarch64-linux-gnu-gcc
+        have $CROSS || install_packages gcc-aarch64-linux-gnu libc6-dev-arm64-cross
+        ;;
+    cortex-m4)
+        CROSS=arm-none-eabi-gcc
+        have $CROSS && [ -e /usr/include/newlib/stdint.h ] || install_packages gcc-arm-none-eabi libnewlib-arm-none-eabi
+        ;;
+    esac
+}
+
 if [ "$(uname -m)" = x86_64 ]; then
     have gcc || install_packages gcc libc6-dev
     CC=gcc

@@ -1,4 +1,4 @@
-# build_for TARGET makes the library's archive for a machine, x86_64, aarch64 or cortex-m4, and sets `made` to its path. That for x86-64 is rt's
+# build_for TARGET makes the library's archive for a machine, x86_64, aarch64 or cortex-m4, and sets `built` to its path. That for x86-64 is rt's
 # own. For another machine the kit's compiler gets the module of the proved build once more, with the machine's words in the place of x86-64's.
 # Sourced from the top of the clone.
 . build/library.sh
@@ -34,6 +34,7 @@ kit_that_keeps() { # FOLDER
         link_all_but "$home/on/$machine/toolchain/bin" clang "$1/on/$machine/toolchain/bin" || return
     cat >"$1/on/$machine/toolchain/bin/clang" <<END_OF_FILE
 #!/bin/sh
+[ ! -e '$PWD/$module' ] || { echo "more than one module is handed over" >&2; exit 1; }
 for word; do
     case \$word in *.bc) cp "\$word" '$PWD/$module' || exit ;; esac
 done
@@ -101,15 +102,15 @@ compiler_name() {
     "$(kit_compiler)" --version 2>/dev/null | head -n 1
 }
 
-# The module as text for a machine. `module.ll` names x86-64 in three ways: its triple, its data layout and its processor. A length has 64 bits in
-# it; where size_t has 32 its calls get other names, and build/face is between them and the header's.
-module_for() { # TARGET LAYOUT
-    layout=$(echo "$2" | sed -n '/^target datalayout/p') triple=$(echo "$2" | sed -n '/^target triple/p')
+# The module for a machine, as text. It names x86-64 in three ways: its triple, its data layout and its processor. A length has 64 bits in it; where
+# size_t has 32 its calls get other names, and build/face is between them and the header's.
+module_for() { # TARGET LAYOUT FOLDER
+    text=$3/module.ll layout=$(echo "$2" | sed -n '/^target datalayout/p') triple=$(echo "$2" | sed -n '/^target triple/p')
     set -- "$1" -e "s|^target datalayout = .*|$layout|" -e "s|^target triple = .*|$triple|" -e '/^attributes /s/ "target-cpu"="[^"]*"//'
     # Attribute 28 is how numbers of floating point are handed over. None are: 3 suits every program.
     [ "$1" != cortex-m4 ] || set -- "$@" -e 's/@\(hz_[a-z_]*\)(/@\1_64(/' -e '/^target triple/a module asm ".eabi_attribute 28, 3"'
     shift
-    "$(kit_compiler)" -x ir "$module" -S -emit-llvm -Xclang -disable-llvm-passes -o - | sed "$@"
+    "$(kit_compiler)" -x ir "$module" -S -emit-llvm -Xclang -disable-llvm-passes -o "$text.x86_64" && sed "$@" "$text.x86_64" >"$text"
 }
 
 # Compiles it by the kit's own words for x86-64, but for those that name the machine.
@@ -140,10 +141,10 @@ make_target() { # TARGET FOLDER
         return 1
     fi
     rm -rf "$2"
-    mkdir -p "$2" && module_for "$1" "$layout" >"$2/module.ll" && compile_for "$1" "$2" && set -- "$1" "$2" "$2/hostozaro.o" || return
+    mkdir -p "$2" && module_for "$1" "$layout" "$2" && compile_for "$1" "$2" && set -- "$1" "$2" "$2/hostozaro.o" || return
     if [ "$1" = cortex-m4 ]; then
         # shellcheck disable=SC2046
-        "$tools/clang" $(machine_words "$1") -O3 -ffreestanding -ffunction-sections -nostdinc -Ibuild/face -Iinclude -c build/face/face.c \
+        "$tools/clang" $(machine_words "$1") -O3 -Wall -Wextra -Werror -ffreestanding -ffunction-sections -nostdinc -Ibuild/face -Iinclude -c build/face/face.c \
             -o "$2/face.o" && set -- "$@" "$2/face.o" || return
     fi
     folder=$2 name=$1
@@ -153,8 +154,8 @@ make_target() { # TARGET FOLDER
 
 build_for() { # TARGET
     build_library || return
-    made=$archive
+    built=$archive
     [ "$1" != x86_64 ] || return 0
-    made=target/$1/libhostozaro.a
+    built=target/$1/libhostozaro.a
     { module_stands || alone make_module; } && alone make_target "$1" "target/$1"
 }

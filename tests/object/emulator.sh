@@ -9,16 +9,13 @@ emulate() {
     CFLAGS='-std=c11 -O3 -fno-pie -fno-stack-protector' AFTER=''
     case $1 in
     x86_64) CFLAGS="$CFLAGS -fcf-protection=none" ;;
-    aarch64)
-        have aarch64-linux-gnu-gcc || install_packages gcc-aarch64-linux-gnu libc6-dev-arm64-cross
-        CC=aarch64-linux-gnu-gcc CFLAGS="$CFLAGS -mno-outline-atomics"
-        ;;
+    aarch64) CFLAGS="$CFLAGS -mno-outline-atomics" ;;
     cortex-m4)
-        have arm-none-eabi-gcc || install_packages gcc-arm-none-eabi
-        [ -e "$(arm-none-eabi-gcc -print-file-name=libc.a)" ] || install_packages libnewlib-arm-none-eabi
-        CC=arm-none-eabi-gcc CFLAGS="$CFLAGS -mcpu=cortex-m4 -mthumb -mfloat-abi=soft" AFTER='-Wl,-Ttext-segment=0x400000 -Wl,-z,noexecstack -Wl,--no-whole-archive -lc -lgcc'
+        CFLAGS="$CFLAGS -mcpu=cortex-m4 -mthumb -mfloat-abi=soft"
+        AFTER='-Wl,-Ttext-segment=0x400000 -Wl,-z,noexecstack -Wl,--no-whole-archive -lc -lgcc'
         ;;
     esac
+    [ "$1" = x86_64 ] || { cross "$1" && CC=$CROSS; }
 }
 emulate x86_64
 
