@@ -310,8 +310,6 @@ uint64_t hz_step(uint64_t *record, size_t record_len,
  *     before it (or zero, for j = 1); so there is not exactly one x, whatever b.
  *     All m bytes of the solution become 0. The counts include Check(j).
  * Either way the table is as after the last step taken.
- * It works on a copy of the table on the stack, some 47 KB with its room; where
- *     there is no such stack, go by hz_step.
  * Refusals, in order: 1, 2, 3, 4 (table m(m+1)n), 5 (solution m), 6 (table),
  *     7, 8 (the lengths of a full solve, even if the system will stop early), 9
  *     (among the first m(n-1) bytes, likewise). */

@@ -8,7 +8,7 @@
 #include <stddef.h>
 
 enum { MOST = 96, MOST_COLUMNS = 110, MAX_MASK = 3820512, MAX_ENTRIES = MOST * (MOST_COLUMNS + 1) };
-enum { PAINTED = 14336 }; /* words; the board's stack has 16384 */
+enum { PAINTED = 6144 }; /* words */
 
 static uint8_t values[MAX_ENTRIES], table[MAX_ENTRIES * 4], x[MOST_COLUMNS], input[HZ_BESIDE_TABLE + MAX_ENTRIES * 4];
 static uint8_t mask[MAX_MASK], nonzero[MOST * 3];

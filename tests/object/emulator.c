@@ -196,6 +196,7 @@ static void count(uc_engine *uc, uint64_t address, uint32_t size, void *machine)
 emulator *emulator_open(const char *program)
 {
     emulator *e = calloc(1, sizeof *e);
+    uc_hook hook;
     e->file = read_file(program);
     uint16_t elf = ((const Elf64_Ehdr *)e->file)->e_machine; /* at the same place in every file */
     for (size_t i = 0; i < sizeof kinds / sizeof *kinds; i++)
@@ -211,18 +212,13 @@ emulator *emulator_open(const char *program)
     must(uc_mem_map(e->uc, DATA, DATA_SIZE, UC_PROT_READ | UC_PROT_WRITE), "map data");
     must(uc_mem_map(e->uc, STACK, STACK_SIZE, UC_PROT_READ | UC_PROT_WRITE), "map stack");
     must(uc_mem_map(e->uc, HOME, 0x1000, UC_PROT_ALL), "map home");
-    must(uc_hook_add(e->uc, &e->counting, UC_HOOK_CODE, (void *)count, e, 1, 0), "hook");
+    must(uc_hook_add(e->uc, &hook, UC_HOOK_CODE, (void *)count, e, 1, 0), "hook");
     if (e->file[EI_CLASS] == ELFCLASS32)
         load_32(e);
     else
         load_64(e);
     emulator_reset(e);
     return e;
-}
-
-void emulator_stop_counting(emulator *e)
-{
-    must(uc_hook_del(e->uc, e->counting), "stop counting");
 }
 
 /* ---- Calls ---- */

@@ -33,7 +33,6 @@ typedef struct {
     uint64_t lent;    /* up to where memory is lent */
     uint64_t counted; /* instructions of the last call, its return included */
     uint64_t last;
-    uc_hook counting;
 } emulator;
 
 /* Any fault ends the program with a message. */
@@ -48,9 +47,6 @@ void emulator_reset(emulator *e);
 /* The first `numbers` arguments are uint64_t, the others pointers and size_t. Every
  * register and the stack are 0 at the call, but for the arguments. */
 uint64_t emulator_call(emulator *e, const char *name, size_t numbers, const uint64_t *arguments, size_t count);
-
-/* Calls are no longer counted, and take less time. */
-void emulator_stop_counting(emulator *e);
 
 /* The function that an instruction belongs to. */
 const symbol *emulator_function(const emulator *e, uint64_t address);

@@ -20,69 +20,47 @@
 /* What is run: one step, or a whole solve. */
 #define WHOLE 100
 
-/* How much of a whole solve is looked at. */
-typedef enum {
-    EVERY_STEP, /* all of it */
-    ENDS,       /* order: of the first two columns Scale and the first and last Mix and Clear, but the last Mix of the
-                   first one only; and every Open and Lift */
-    BEGINNING,  /* order: Mix(1,2), Scale(1) and Clear(1,2); the call is broken off after that */
-    WAYS,       /* no order: branches and addresses, in FEW runs */
-} extent;
-
-#define FEW 6
-
 typedef struct {
     uint64_t step, j, k;
-    extent looked_at;
     bool wide;
     uint64_t rows, columns;
     uint64_t pivots[4]; /* wide: those found so far, of a whole solve those it finds; zeros after them */
 } scene;
 
-#define STEP(step, j, k) step, j, k, EVERY_STEP
-#define SOLVE(looked_at) WHOLE, 0, 0, looked_at
 #define SQUARE(m) false, m, m, {0}
 #define WIDE(rows, columns, ...) true, rows, columns, {__VA_ARGS__}
 
-/* In the wide steps no row is numbered as its column, and a row from column 2 of 144 on is
- * longer than the library joins in one part. Whole solves have rows of all lengths from 2 to
- * 53 columns, and of 61 to 64, 67, 144 and 145; eight columns are a word of 64 bits. */
+/* In the wide ones no row is numbered as its column, and a row from column 2 of 144 on is
+ * longer than the library joins in one part. */
 static const scene scenes[] = {
-    {STEP(HZ_MIX, 2, 4), SQUARE(4)},
-    {STEP(HZ_CHECK, 2, 0), SQUARE(4)},
-    {STEP(HZ_SCALE, 2, 0), SQUARE(4)},
-    {STEP(HZ_CLEAR, 2, 3), SQUARE(4)},
-    {STEP(HZ_OPEN, 3, 0), SQUARE(4)},
-    {STEP(HZ_LIFT, 3, 0), SQUARE(4)},
-    {STEP(HZ_MIX, 1, 2), SQUARE(35)},
-    {STEP(HZ_SCALE, 1, 0), SQUARE(35)},
-    {STEP(HZ_CLEAR, 1, 2), SQUARE(35)},
-    {STEP(HZ_OPEN, 35, 0), SQUARE(35)},
-    {STEP(HZ_LIFT, 35, 0), SQUARE(35)},
-    {SOLVE(EVERY_STEP), SQUARE(3)},
-    {SOLVE(ENDS), SQUARE(8)},
-    {SOLVE(BEGINNING), SQUARE(22)},
-    {SOLVE(BEGINNING), SQUARE(66)},
-    {SOLVE(WAYS), SQUARE(52)},
-    {STEP(HZ_MIX, 3, 4), WIDE(4, 6, 1)},
-    {STEP(HZ_CHECK, 3, 0), WIDE(4, 6, 1)},
-    {STEP(HZ_SCALE, 3, 0), WIDE(4, 6, 1, 3)},
-    {STEP(HZ_CLEAR, 3, 4), WIDE(4, 6, 1, 3)},
-    {STEP(HZ_OPEN, 4, 0), WIDE(4, 6, 1, 3, 4, 6)},
-    {STEP(HZ_LIFT, 4, 0), WIDE(4, 6, 1, 3, 4, 6)},
-    {STEP(HZ_MIX, 2, 2), WIDE(2, 144, 0)},
-    {STEP(HZ_SCALE, 2, 0), WIDE(2, 144, 2)},
-    {STEP(HZ_CLEAR, 2, 2), WIDE(2, 144, 2)},
-    {SOLVE(EVERY_STEP), WIDE(3, 5, 1, 3, 4)},
-    {SOLVE(EVERY_STEP), WIDE(3, 63, 1, 2, 4)},
-    {SOLVE(EVERY_STEP), WIDE(2, 144, 1, 2)},
+    {HZ_MIX, 2, 4, SQUARE(4)},
+    {HZ_CHECK, 2, 0, SQUARE(4)},
+    {HZ_SCALE, 2, 0, SQUARE(4)},
+    {HZ_CLEAR, 2, 3, SQUARE(4)},
+    {HZ_OPEN, 3, 0, SQUARE(4)},
+    {HZ_LIFT, 3, 0, SQUARE(4)},
+    {HZ_MIX, 1, 2, SQUARE(35)},
+    {HZ_SCALE, 1, 0, SQUARE(35)},
+    {HZ_CLEAR, 1, 2, SQUARE(35)},
+    {HZ_OPEN, 35, 0, SQUARE(35)},
+    {HZ_LIFT, 35, 0, SQUARE(35)},
+    {WHOLE, 0, 0, SQUARE(3)},
+    {HZ_MIX, 3, 4, WIDE(4, 6, 1)},
+    {HZ_CHECK, 3, 0, WIDE(4, 6, 1)},
+    {HZ_SCALE, 3, 0, WIDE(4, 6, 1, 3)},
+    {HZ_CLEAR, 3, 4, WIDE(4, 6, 1, 3)},
+    {HZ_OPEN, 4, 0, WIDE(4, 6, 1, 3, 4, 6)},
+    {HZ_LIFT, 4, 0, WIDE(4, 6, 1, 3, 4, 6)},
+    {HZ_MIX, 2, 2, WIDE(2, 144, 0)},
+    {HZ_SCALE, 2, 0, WIDE(2, 144, 2)},
+    {HZ_CLEAR, 2, 2, WIDE(2, 144, 2)},
+    {WHOLE, 0, 0, WIDE(3, 5, 1, 3, 4)},
 };
 
 static emulator *machine;
 static sizes size;
 static const scene *now;
 static place here; /* where a scene of one step stands */
-static int runs;   /* of this test: RUNS or FEW */
 static unsigned passed, failed;
 
 /* A record of either kind, and the place that it stands at. */
@@ -109,28 +87,15 @@ static place place_of(const record *r)
 
 /* ---- Inputs ---- */
 
+#define ROOM 8192
 #define MOST_COLUMNS 144
-#define MOST_TABLE (96 * 97 * 4)
-#define MOST_MASKS (4u << 20)
 
 typedef struct {
-    uint8_t *values, *table, *mask, *nonzero;
+    uint8_t values[ROOM / 2], table[ROOM], mask[ROOM], nonzero[16];
 } input;
 
 static input inputs[RUNS];
 static size_t entries, table_len, mask_len, nonzero_len;
-static size_t new_masks; /* so many of the mask draws a run comes to; it is broken off where it reads a later one */
-
-static void make_room(void)
-{
-    for (int r = 0; r < RUNS; r++) {
-        input *in = &inputs[r];
-        in->values = realloc(in->values, entries);
-        in->table = realloc(in->table, table_len);
-        in->mask = realloc(in->mask, new_masks + 1); /* one more, for those that are empty */
-        in->nonzero = realloc(in->nonzero, nonzero_len + 1);
-    }
-}
 
 static uint8_t any(void)
 {
@@ -160,7 +125,7 @@ static size_t entry_number(uint64_t row, uint64_t column)
 
 static void new_draws(input *in)
 {
-    for (size_t i = 0; i < new_masks; i++)
+    for (size_t i = 0; i < mask_len; i++)
         in->mask[i] = any();
     for (size_t i = 0; i < nonzero_len; i++)
         in->nonzero[i] = not_zero();
@@ -190,16 +155,9 @@ static uint8_t some_pivot(void)
 }
 
 /* Whether a system has the pivots that are wanted of it: those of the scene, or every
- * column of a square one, which then has one solution. Where it is broken off in the first
- * column, that one is enough. */
+ * column of a square one, which then has one solution. */
 static bool has_pivots(const input *in)
 {
-    if (now->looked_at == BEGINNING) {
-        uint8_t any_bit = 0;
-        for (uint64_t row = 1; row <= size.rows; row++)
-            any_bit |= in->values[entry_number(row, 1)];
-        return any_bit != 0;
-    }
     uint64_t answer[4], found[96];
     uint8_t solution[MOST_COLUMNS];
     if (now->wide)
@@ -229,23 +187,19 @@ static void combine_columns(input *in)
     }
 }
 
-/* Pivots of all kinds on the way of a whole solve. In half of the systems that have a Mix
- * for the second pivot it is 0 when it is sought: row 2 is a multiple of row 1 there, less
- * row 3 where a column is passed over between the two, at which Mix adds that. Where the last
- * Mix of the first column is looked at it finds a 0 in a quarter of the systems. */
+/* Pivots of all kinds on the way of a whole solve. In half of the systems the second one is
+ * 0 when it is sought: row 2 is a multiple of row 1 there, less row 3 in a wide system, where
+ * Mix adds that at the column that is passed over. */
 static void make_whole(input *in)
 {
     uint64_t columns[2] = {1, now->wide ? now->pivots[1] : 2};
     in->values[entry_number(1, 1)] = some_pivot();
     in->values[entry_number(2, 1)] = some_pivot();
-    bool last_mixes = now->looked_at == ENDS && any() % 4 == 0;
-    for (uint64_t row = 1; row < size.rows && last_mixes; row++)
-        in->values[entry_number(row, 1)] = 0;
     uint8_t c = element();
-    bool second_is_zero = any() % 2 && size.rows > 2;
+    bool second_is_zero = any() % 2;
     for (size_t i = 0; i < 2 && second_is_zero; i++) {
         uint8_t multiple = model_times(size.field, c, in->values[entry_number(1, columns[i])]);
-        in->values[entry_number(2, columns[i])] = multiple ^ (columns[1] > 2 ? in->values[entry_number(3, columns[i])] : 0);
+        in->values[entry_number(2, columns[i])] = multiple ^ (now->wide ? in->values[entry_number(3, columns[i])] : 0);
     }
     if (now->wide)
         combine_columns(in);
@@ -270,7 +224,7 @@ static void new_values(input *in)
 /* Everything new in each run. */
 static void make_new(void)
 {
-    for (int r = 0; r < runs; r++) {
+    for (int r = 0; r < RUNS; r++) {
         new_draws(&inputs[r]);
         new_values(&inputs[r]);
     }
@@ -296,7 +250,7 @@ static void make_same_opened(bool flag)
     size_t pivot = whole ? 0 : entry_number(here.row, here.j);
     size_t last = whole ? 0 : entry_number(here.row, size.columns + 1);
     uint8_t u = not_zero();
-    for (int r = 0; r < runs; r++) {
+    for (int r = 0; r < RUNS; r++) {
         input *in = &inputs[r];
         if (whole) {
             memcpy(in->nonzero, inputs[0].nonzero, nonzero_len);
@@ -350,14 +304,6 @@ static uint64_t step_by_model(record *r, uint8_t *table, uint8_t *solution, cons
                                                       size.columns, mask, masks, nonzero, nonzeros, answer, 4);
 }
 
-/* The tape of an input. What comes after its own draws is the same for all. */
-static const uint8_t *mask_tape(const input *in)
-{
-    static uint8_t tape[MOST_MASKS];
-    memcpy(tape, in->mask, new_masks);
-    return tape;
-}
-
 static uint64_t model_outcome(const input *in, uint8_t *table, uint8_t *solution)
 {
     uint64_t answer[4];
@@ -368,26 +314,23 @@ static uint64_t model_outcome(const input *in, uint8_t *table, uint8_t *solution
         return step_by_model(&r, table, solution, in->mask, mask_len, in->nonzero, nonzero_len);
     if (now->wide)
         return model_wide_solve(size.field, size.n, size.rows, size.columns, table, table_len, solution, size.columns,
-                                mask_tape(in), mask_len, in->nonzero, nonzero_len, answer, 4);
-    return model_solve(size.field, size.n, size.rows, table, table_len, solution, size.columns, mask_tape(in), mask_len,
+                                in->mask, mask_len, in->nonzero, nonzero_len, answer, 4);
+    return model_solve(size.field, size.n, size.rows, table, table_len, solution, size.columns, in->mask, mask_len,
                        in->nonzero, nonzero_len, answer, 4);
 }
 
-static uint64_t at_mask; /* where the machine has the mask tape */
-
 /* Runs the library on an input, and makes sure that it does what the model does. */
-static void call(const input *in, wanted w, trace *t)
+static void call(const input *in, bool values, trace *t)
 {
     uint64_t code, empty[4] = {0};
-    static uint8_t table[MOST_TABLE], wanted_table[MOST_TABLE];
-    uint8_t solution[MOST_COLUMNS], wanted_solution[MOST_COLUMNS];
+    uint8_t table[ROOM], solution[MOST_COLUMNS], wanted_table[ROOM], wanted_solution[MOST_COLUMNS];
     record r = first_record();
     first_solution(in, solution);
     emulator_reset(machine);
     uint64_t at_record = emulator_lend(machine, r.word, record_words() * sizeof *r.word);
     uint64_t at_table = emulator_lend(machine, in->table, table_len);
     uint64_t at_solution = emulator_lend(machine, solution, size.columns);
-    at_mask = emulator_lend(machine, mask_tape(in), mask_len);
+    uint64_t at_mask = emulator_lend(machine, in->mask, mask_len);
     uint64_t at_nonzero = emulator_lend(machine, in->nonzero, nonzero_len);
     uint64_t at_answer = emulator_lend(machine, empty, sizeof empty);
     static const char *const names[2][2] = {{"hz_step", "hz_solve"}, {"hz_wide_step", "hz_wide_solve"}};
@@ -396,11 +339,7 @@ static void call(const input *in, wanted w, trace *t)
                             at_mask, mask_len, at_nonzero, nonzero_len, at_answer, 4};
     size_t numbers = now->step != WHOLE ? 0 : now->wide ? 4 : 3, lent = now->step != WHOLE ? 12 : 10;
     memcpy(arguments + numbers, buffers + 12 - lent, lent * sizeof *buffers);
-    w.stop_from = at_mask + new_masks;
-    w.stop_to = at_mask + mask_len;
-    code = trace_call(machine, names[now->wide][now->step == WHOLE], numbers, arguments, numbers + lent, &w, t);
-    if (t->broken_off)
-        return;
+    code = trace_call(machine, names[now->wide][now->step == WHOLE], numbers, arguments, numbers + lent, values, t);
     emulator_take(machine, at_table, table, table_len);
     emulator_take(machine, at_solution, solution, size.columns);
     if (code != model_outcome(in, wanted_table, wanted_solution) || memcmp(table, wanted_table, table_len) != 0
@@ -410,31 +349,34 @@ static void call(const input *in, wanted w, trace *t)
     }
 }
 
-static trace first, traces[RUNS]; /* the first input's, and those of all, that one included */
+static trace traces[RUNS];
 
-/* The first input is run twice: the first time to compare the others with. */
-static void call_all(const window *windows, size_t window_count)
+static void call_all(bool values)
 {
-    for (int r = 0; r < runs; r++)
-        call(&inputs[r], (wanted){.first = &first, .windows = windows, .window_count = window_count}, &traces[r]);
+    for (int r = 0; r < RUNS; r++)
+        call(&inputs[r], values, &traces[r]);
 }
 
 /* How many instructions are the same in all runs, from the first on. */
 static size_t common_length(void)
 {
-    size_t length = first.length;
-    for (int r = 0; r < runs; r++)
-        length = traces[r].alike < length ? traces[r].alike : length;
+    size_t length = traces[0].length;
+    for (int r = 1; r < RUNS; r++) {
+        size_t i = 0;
+        while (i < length && i < traces[r].length && (traces[r].pc[i] | NOT_DONE) == (traces[0].pc[i] | NOT_DONE))
+            i++;
+        length = i;
+    }
     return length;
 }
 
 static bool all_alike(void)
 {
     size_t length = common_length();
-    for (int r = 0; r < runs; r++)
+    for (int r = 0; r < RUNS; r++)
         if (traces[r].length != length)
             return false;
-    return first.length == length;
+    return true;
 }
 
 /* ---- What is told ---- */
@@ -454,14 +396,11 @@ static const char *step_text(const place *at)
 static const char *place_text(uint32_t pc)
 {
     static char text[128];
-    pc = pc_of(pc);
+    pc &= ~NOT_DONE;
     const symbol *f = emulator_function(machine, pc);
     snprintf(text, sizeof text, "%s+0x%" PRIx64, f->name, pc - f->address);
     return text;
 }
-
-/* How many tests of whole solves there were, by scene. */
-static unsigned whole_tests[sizeof scenes / sizeof *scenes];
 
 /* The findings of one test: the first ones are told, the others counted. */
 static unsigned findings;
@@ -478,21 +417,16 @@ __attribute__((format(printf, 1, 2))) static void finding(const char *format, ..
     }
 }
 
-static void print_size(const scene *s)
-{
-    if (s->wide)
-        printf(" wide %" PRIu64 "x%" PRIu64, s->rows, s->columns);
-    else
-        printf(" m=%" PRIu64, s->rows);
-}
-
 /* Ends a test. */
 __attribute__((format(printf, 1, 2))) static void verdict(const char *format, ...)
 {
     va_list rest;
     va_start(rest, format);
     printf("%s F%" PRIu64 " n=%" PRIu64, findings == 0 ? "ok  " : "FAIL", size.field, size.n);
-    print_size(now);
+    if (now->wide)
+        printf(" wide %" PRIu64 "x%" PRIu64, size.rows, size.columns);
+    else
+        printf(" m=%" PRIu64, size.rows);
     printf(" %s: ", now->step == WHOLE ? "whole solve" : step_text(&here));
     vprintf(format, rest);
     if (findings != 0)
@@ -502,50 +436,18 @@ __attribute__((format(printf, 1, 2))) static void verdict(const char *format, ..
     va_end(rest);
     findings == 0 ? passed++ : failed++;
     findings = 0;
-    whole_tests[now - scenes] += now->step == WHOLE;
 }
 
 /* ---- The steps of a run ---- */
 
-/* Whether the order of additions is looked at in a step. */
-static bool is_looked_at(const place *p)
-{
-    bool is_first = p->step == HZ_SCALE || p->k == p->j + 1;
-    bool is_last = p->k == size.rows && (p->j == 1 || p->step == HZ_CLEAR);
-    switch (now->looked_at) {
-    case EVERY_STEP: return true;
-    case ENDS: return p->step == HZ_OPEN || p->step == HZ_LIFT || (p->j <= 2 && (is_first || is_last));
-    case BEGINNING: return is_first;
-    default: return false;
-    }
-}
-
-/* The steps of the list, which all runs have in common, and how many mask draws come
- * before each. */
-static struct {
-    place at;
-    size_t masks_before;
-} *steps;
-static size_t step_count;
-
-static void note_step(size_t number, const place *at, size_t masks_before)
-{
-    steps = realloc(steps, (number + 1) * sizeof *steps);
-    steps[number].at = *at;
-    steps[number].masks_before = masks_before;
-    step_count = number + 1;
-}
-
-/* What is done with the rules of each step that is looked at: `at` is the number of the
- * first thing that is noted of them, and the number after the last is returned. */
+/* What is done with the rules of each step of a run: `at` is the number of the first
+ * thing that is noted of them, and the number after the last is returned. */
 typedef size_t visitor(int r, size_t at, const place *step, const rule *rules, size_t count);
 
-/* One that is broken off is walked up to there. */
 static void walk(int r, visitor *visit)
 {
     uint64_t answer[4], code;
-    static uint8_t table[MOST_TABLE];
-    uint8_t solution[MOST_COLUMNS];
+    uint8_t table[ROOM], solution[MOST_COLUMNS];
     record rec = first_record();
     const uint8_t *mask = inputs[r].mask, *nonzero = inputs[r].nonzero;
     memcpy(table, inputs[r].table, table_len);
@@ -554,85 +456,17 @@ static void walk(int r, visitor *visit)
         model_wide_start(size.field, size.n, size.rows, size.columns, rec.word, record_words(), answer, 4);
     else if (now->step == WHOLE)
         model_start(size.field, size.n, size.rows, rec.word, record_words(), answer, 4);
-    size_t at = 0, number = 0;
+    size_t at = 0;
     do {
         rule rules[MAX_RULES];
         place step = place_of(&rec);
         uint64_t masks = model_mask_draws(size.field, size.n, size.columns, step.step, step.j);
         uint64_t nonzeros = model_nonzero_draws(size.n, step.step);
-        note_step(number++, &step, (size_t)(mask - inputs[r].mask));
-        if (is_looked_at(&step))
-            at = visit(r, at, &step, rules, rules_of(&size, &step, table, solution, mask, nonzero, rules));
+        at = visit(r, at, &step, rules, rules_of(&size, &step, table, solution, mask, nonzero, rules));
         code = step_by_model(&rec, table, solution, mask, masks, nonzero, nonzeros);
         mask += masks;
         nonzero += nonzeros;
-    } while (now->step == WHOLE && (code == HZ_MOVED || code == HZ_OPENED)
-             && (mask < inputs[r].mask + new_masks || new_masks == mask_len));
-}
-
-/* ---- Where the steps are in a run ---- */
-
-/* The number of the first instruction of the first run, from number `from` on, that reads a
- * mask draw from number `mask` on; the run's length where none does. */
-static size_t first_read_from(size_t mask, size_t from)
-{
-    for (size_t i = 0; i < first.touch_count; i++) {
-        const touch *t = &first.touches[i];
-        if (!t->write && t->at >= from && t->address >= at_mask + mask && t->address < at_mask + mask_len)
-            return t->at;
-    }
-    return first.length;
-}
-
-/* The last one before number `before` that reads a draw before number `mask`; 0 where none does. */
-static size_t last_read_before(size_t mask, size_t before)
-{
-    size_t last = 0;
-    for (size_t i = 0; i < first.touch_count && first.touches[i].at < before; i++) {
-        const touch *t = &first.touches[i];
-        if (!t->write && t->address >= at_mask && t->address < at_mask + mask)
-            last = t->at;
-    }
-    return last;
-}
-
-/* Before the first draw is read the whole table may be turned about: so much of it is
- * looked at. */
-#define BEFORE_DRAWS 30000
-
-/* A step reads its own draws: they tell where in a run it is. Its window is from the last
- * draw of the steps before it to the first one of the step after the next. If a program read
- * its draws so much earlier or later, the sums that must stand would not stand in the
- * window, and the test would fail. */
-static window window_of(size_t number)
-{
-    size_t masks = steps[number].masks_before;
-    size_t begins = first_read_from(masks, 0), from = last_read_before(masks, begins);
-    if (from + BEFORE_DRAWS < begins)
-        from = begins - BEFORE_DRAWS;
-    return (window){from, number + 2 < step_count ? first_read_from(steps[number + 2].masks_before, begins) : first.length};
-}
-
-/* The windows of all steps that are looked at, in order, those joined that overlap. Where
- * every step is looked at that is all of the run. */
-#define MOST_WINDOWS 64
-static window windows[MOST_WINDOWS];
-static size_t window_count;
-
-static void find_windows(void)
-{
-    window_count = 0;
-    if (now->looked_at == EVERY_STEP)
-        windows[window_count++] = (window){0, first.length};
-    for (size_t i = 0; i < step_count && now->looked_at != EVERY_STEP; i++) {
-        if (!is_looked_at(&steps[i].at))
-            continue;
-        window w = window_of(i), *last = &windows[window_count - 1];
-        if (window_count > 0 && w.from <= last->to)
-            last->to = w.to > last->to ? w.to : last->to;
-        else
-            windows[window_count++] = w;
-    }
+    } while (now->step == WHOLE && (code == HZ_MOVED || code == HZ_OPENED));
 }
 
 /* ---- The order of additions ---- */
@@ -665,57 +499,16 @@ static bool is_constant(const series *v)
     return true;
 }
 
-/* Eight tests of each watch, by the bits of a series: a byte has one bit to a test, and a
- * series passes the tests of those watches for which the bytes of its bits add up to 0. Most
- * series are turned away like that, by many watches at once. */
-typedef struct {
-    watch **of;
-    size_t count, words; /* watches, and words to a row, which has a byte to each of them */
-    uint64_t *row[64 * TEST_WORDS], *sum;
-} sieve;
-
-static sieve sieves[2]; /* of elements, and of bits */
-
-static void make_sieve(sieve *s, bool bits)
-{
-    s->count = 0;
-    s->of = realloc(s->of, (watch_count + 1) * sizeof *s->of);
-    for (size_t i = 0; i < watch_count; i++)
-        if (watches[i].independent && (watches[i].in[0].bits != 0) == bits)
-            s->of[s->count++] = &watches[i];
-    s->words = s->count / 8 + 1;
-    s->sum = realloc(s->sum, s->words * sizeof *s->sum);
-    for (unsigned bit = 0; bit < 64 * TEST_WORDS; bit++) {
-        s->row[bit] = realloc(s->row[bit], s->words * sizeof *s->sum);
-        memset(s->row[bit], 0, s->words * sizeof *s->sum);
-        for (size_t i = 0; i < s->count; i++)
-            for (unsigned t = 0; t < 8; t++)
-                ((uint8_t *)s->row[bit])[i] |= (uint8_t)((s->of[i]->span.test[t][bit / 64] >> bit % 64 & 1) << t);
-    }
-}
-
-static void sum_rows(sieve *s, const series *v)
-{
-    memset(s->sum, 0, s->words * sizeof *s->sum);
-    for (unsigned word = 0; word < TEST_WORDS; word++)
-        for (uint64_t rest = v->word[word]; rest != 0; rest &= rest - 1) {
-            const uint64_t *row = s->row[64 * word + (unsigned)__builtin_ctzll(rest)];
-            for (size_t i = 0; i < s->words; i++)
-                s->sum[i] ^= row[i];
-        }
-}
-
 /* Shows a series to the watches of elements, or to those of bits. */
 static void show(const series *v, bool is_bit, uint32_t pc)
 {
-    sieve *s = &sieves[is_bit];
     if (is_constant(v))
         return;
-    sum_rows(s, v);
-    for (size_t i = 0; i < s->count; i++) {
-        const char *fault = ((uint8_t *)s->sum)[i] != 0 ? NULL : watch_see(s->of[i], v);
+    for (size_t i = 0; i < watch_count; i++) {
+        watch *w = &watches[i];
+        const char *fault = (w->in[0].bits != 0) == is_bit ? watch_see(w, v) : NULL;
         if (fault != NULL)
-            finding("%s of %s, by %s (%s)", fault, step_text(&s->of[i]->at), place_text(pc), trace_text(pc));
+            finding("%s of %s, by %s (%s)", fault, step_text(&w->at), place_text(pc), trace_text(pc));
     }
 }
 
@@ -759,53 +552,52 @@ static void look_at_byte(const series *v, uint32_t pc)
     }
 }
 
-/* Goes through the windows, in the common part of the traces, and looks at each byte of
- * each register that is new in some run, and of each store. */
+/* Goes through the common part of the traces, and looks at each byte of each
+ * register that is new in some run, and of each store. */
 static void look_at_values(size_t length)
 {
     static uint8_t file[RUNS][MAX_REGISTERS][16];
     static size_t next[RUNS];
     memset(file, 0, sizeof file);
     memset(next, 0, sizeof next);
-    for (const window *w = windows; w < windows + window_count; w++)
-        for (size_t at = w->from; at < w->to && at < length; at++) {
-            uint64_t changed = 0;
-            uint8_t stored[RUNS][64];
-            size_t stored_len = 0;
-            for (int r = 0; r < RUNS; r++) {
-                const trace *t = &traces[r];
-                stored_len = 0;
-                for (; next[r] < t->change_count && t->changes[next[r]].at == at; next[r]++) {
-                    const change *c = &t->changes[next[r]];
-                    if (c->where == STORE) {
-                        memcpy(stored[r] + stored_len, c->bytes, c->len);
-                        stored_len += c->len;
-                    } else {
-                        memcpy(file[r][c->where], c->bytes, c->len);
-                        changed |= (uint64_t)1 << c->where;
-                    }
+    for (uint32_t at = 0; at < length; at++) {
+        uint64_t changed = 0;
+        uint8_t stored[RUNS][64];
+        size_t stored_len = 0;
+        for (int r = 0; r < RUNS; r++) {
+            const trace *t = &traces[r];
+            stored_len = 0;
+            for (; next[r] < t->change_count && t->changes[next[r]].at == at; next[r]++) {
+                const change *c = &t->changes[next[r]];
+                if (c->where == STORE) {
+                    memcpy(stored[r] + stored_len, c->bytes, c->len);
+                    stored_len += c->len;
+                } else {
+                    memcpy(file[r][c->where], c->bytes, c->len);
+                    changed |= (uint64_t)1 << c->where;
                 }
-            }
-            series v;
-            for (size_t where = 0; where < machine->registers; where++)
-                for (unsigned byte = 0; changed >> where & 1 && byte < machine->len[where]; byte++) {
-                    for (int r = 0; r < RUNS; r++)
-                        v.run[r] = file[r][where][byte];
-                    look_at_byte(&v, first.pc[at]);
-                }
-            for (size_t byte = 0; byte < stored_len; byte++) {
-                for (int r = 0; r < RUNS; r++)
-                    v.run[r] = stored[r][byte];
-                look_at_byte(&v, first.pc[at]);
             }
         }
+        series v;
+        for (size_t where = 0; where < machine->registers; where++)
+            for (unsigned byte = 0; changed >> where & 1 && byte < machine->len[where]; byte++) {
+                for (int r = 0; r < RUNS; r++)
+                    v.run[r] = file[r][where][byte];
+                look_at_byte(&v, traces[0].pc[at]);
+            }
+        for (size_t byte = 0; byte < stored_len; byte++) {
+            for (int r = 0; r < RUNS; r++)
+                v.run[r] = stored[r][byte];
+            look_at_byte(&v, traces[0].pc[at]);
+        }
+    }
 }
 
 /* Where the runs part ways, what comes after is not looked at: in Check that is as it
  * should be, and elsewhere the test of branches fails. */
 static void test_order(void)
 {
-    size_t left_out = 0, looked_at = 0;
+    size_t left_out = 0;
     watch_count = 0;
     for (int r = 0; r < RUNS; r++)
         walk(r, watch_rules);
@@ -813,14 +605,8 @@ static void test_order(void)
         watch_open(&size, &watches[i]);
         left_out += !watches[i].independent;
     }
-    make_sieve(&sieves[false], false);
-    make_sieve(&sieves[true], true);
     memset(seen, 0, sizeof seen);
     different = 0;
-    find_windows();
-    for (size_t i = 0; i < window_count; i++)
-        looked_at += windows[i].to - windows[i].from;
-    call_all(windows, window_count);
     look_at_values(common_length());
     bool to_the_end = now->step == HZ_CHECK || all_alike();
     for (size_t i = 0; i < watch_count && to_the_end; i++) {
@@ -828,8 +614,8 @@ static void test_order(void)
         if (missed != NULL)
             finding("%s of %s", missed, step_text(&watches[i].at));
     }
-    verdict("order of additions, %zu rules watched (%zu left out) among %" PRIu64 " different values of %zu instructions",
-            watch_count - left_out, left_out, different, looked_at);
+    verdict("order of additions, %zu rules watched (%zu left out) among %" PRIu64 " different values",
+            watch_count - left_out, left_out, different);
 }
 
 /* ---- Branches and addresses ---- */
@@ -889,22 +675,11 @@ typedef struct {
 static told look_ups; /* those that a single share chooses */
 static told choices;  /* instructions under a condition that is not the same in all runs */
 
-static size_t number_of(const told *of, uint32_t pc)
+static void note(told *of, uint32_t pc)
 {
     size_t i = 0;
     while (i < of->count && (of->at[i].pc != pc || of->at[i].field != size.field))
         i++;
-    return i;
-}
-
-static bool is_noted(const told *of, uint32_t pc)
-{
-    return number_of(of, pc) < of->count;
-}
-
-static void note(told *of, uint32_t pc)
-{
-    size_t i = number_of(of, pc);
     if (i == of->count && of->count < 4095)
         of->count++;
     of->at[i].pc = pc;
@@ -923,12 +698,21 @@ static bool takes_one_cycle(const char *text)
     return false;
 }
 
+/* Whether an instruction is done in some of the runs only. */
+static bool is_choice(size_t at)
+{
+    for (int r = 1; r < RUNS; r++)
+        if (traces[r].pc[at] != traces[0].pc[at])
+            return true;
+    return false;
+}
+
 static void test_branches(const char *inputs_text)
 {
     size_t length = common_length(), chosen = 0;
     for (size_t at = 0; at < length; at++) {
-        uint32_t pc = pc_of(first.pc[at]);
-        if ((first.pc[at] & CHOSEN) == 0)
+        uint32_t pc = traces[0].pc[at] & ~NOT_DONE;
+        if (!is_choice(at))
             continue;
         chosen++;
         note(&choices, pc);
@@ -936,68 +720,41 @@ static void test_branches(const char *inputs_text)
             finding("%s (%s) is done in some runs only, and takes longer then", place_text(pc), trace_text(pc));
     }
     if (!all_alike())
-        finding("what follows %s (%s) is not the same in all runs", place_text(first.pc[length - 1]),
-                trace_text(first.pc[length - 1]));
-    verdict("branches, %s (%d runs, %zu instructions, %zu done or not by a condition)", inputs_text, runs, length, chosen);
-}
-
-/* How many reads and writes, from the first on, are made by the same instructions in all runs. */
-static size_t common_touches(void)
-{
-    size_t count = first.touch_count;
-    for (int r = 0; r < runs; r++)
-        count = traces[r].touches_alike < count ? traces[r].touches_alike : count;
-    return count;
-}
-
-/* The next read or write, from number `from` on, that is not at one address in all runs, and
- * its addresses; `end` where there is none. */
-static size_t next_other(size_t from, size_t end, size_t next[RUNS], uint64_t address[RUNS])
-{
-    size_t least = end;
-    for (int r = 0; r < runs; r++) {
-        const trace *t = &traces[r];
-        while (next[r] < t->other_count && t->others[next[r]].touch < from)
-            next[r]++;
-        if (next[r] < t->other_count && t->others[next[r]].touch < least)
-            least = t->others[next[r]].touch;
-    }
-    for (int r = 0; r < runs && least < end; r++) {
-        const trace *t = &traces[r];
-        bool is_other = next[r] < t->other_count && t->others[next[r]].touch == least;
-        address[r] = is_other ? t->others[next[r]].address : first.touches[least].address;
-    }
-    return least;
-}
-
-/* Whether a single share decides an address. In a few runs many shares would seem to: there
- * it must be an instruction of which RUNS runs have shown it in another test. */
-static bool is_look_up(uint32_t pc, const uint64_t address[RUNS])
-{
-    return runs == RUNS ? follows_one_share(address) : is_noted(&look_ups, pc);
+        finding("what follows %s (%s) is not the same in all runs", place_text(traces[0].pc[length - 1]),
+                trace_text(traces[0].pc[length - 1]));
+    verdict("branches, %s (%zu instructions, %zu done or not by a condition)", inputs_text, length, chosen);
 }
 
 static void test_addresses(const char *inputs_text)
 {
-    size_t single = 0, length = common_length(), end = common_touches(), next[RUNS] = {0};
-    uint64_t address[RUNS];
+    size_t single = 0, length = common_length();
     share_count = 0;
-    for (int r = 0; r < runs && runs == RUNS; r++)
+    for (int r = 0; r < RUNS; r++)
         walk(r, note_shares);
-    for (size_t i = 0; (i = next_other(i, end, next, address)) < end && first.touches[i].at < length; i++) {
-        uint32_t pc = pc_of(first.pc[first.touches[i].at]);
-        if (first.touches[i].write)
+    for (size_t i = 0; i < traces[0].touch_count && traces[0].touches[i].at < length; i++) {
+        const touch *t = &traces[0].touches[i];
+        uint64_t address[RUNS];
+        bool same = true, in_all = true;
+        for (int r = 0; r < RUNS; r++) {
+            in_all = in_all && i < traces[r].touch_count && traces[r].touches[i].at == t->at;
+            address[r] = in_all ? traces[r].touches[i].address : 0;
+            same = same && address[r] == t->address;
+        }
+        uint32_t pc = traces[0].pc[t->at];
+        if (!in_all) {
+            finding("%s (%s) reads or writes in some runs only", place_text(pc), trace_text(pc));
+            break;
+        }
+        if (same)
+            continue;
+        if (t->write)
             finding("%s (%s) writes at an address that depends on shares", place_text(pc), trace_text(pc));
-        else if (!is_look_up(pc, address))
+        else if (!follows_one_share(address))
             finding("%s (%s) reads at an address that no single share decides", place_text(pc), trace_text(pc));
         else
             single++, note(&look_ups, pc);
     }
-    if (end < first.touch_count && first.touches[end].at < length) {
-        uint32_t pc = pc_of(first.pc[first.touches[end].at]);
-        finding("%s (%s) reads or writes in some runs only", place_text(pc), trace_text(pc));
-    }
-    verdict("addresses, %s (%d runs, %zu look-ups by a single share)", inputs_text, runs, single);
+    verdict("addresses, %s (%zu look-ups by a single share)", inputs_text, single);
 }
 
 static void print(const char *what, const told *of)
@@ -1016,13 +773,11 @@ static void test_emulator(void)
     uint8_t ones[64], zeros[64] = {0};
     memset(ones, 1, sizeof ones);
     for (int turn = 0; turn < 2; turn++) {
-        const trace *t = &first;
+        const trace *t = &traces[0];
         size_t read = 0, stored = 0, told = 0;
         emulator_reset(machine);
         uint64_t from = emulator_lend(machine, ones, sizeof ones), to = emulator_lend(machine, zeros, sizeof zeros);
-        window all = {0, SIZE_MAX};
-        trace_call(machine, "copy_one_by_one", 0, (uint64_t[]){to, from, sizeof ones}, 3,
-                   &(wanted){.windows = &all, .window_count = 1}, &first);
+        trace_call(machine, "copy_one_by_one", 0, (uint64_t[]){to, from, sizeof ones}, 3, true, &traces[0]);
         for (size_t i = 0; i < t->touch_count; i++) {
             read += !t->touches[i].write && t->touches[i].address - from < sizeof ones;
             stored += t->touches[i].write && t->touches[i].address - to < sizeof zeros;
@@ -1039,15 +794,16 @@ static void test_emulator(void)
 static void test_same_opened(bool flag, const char *inputs_text)
 {
     make_same_opened(flag);
-    call(&inputs[0], (wanted){0}, &first);
-    call_all(NULL, 0);
+    call_all(false);
     test_branches(inputs_text);
     test_addresses(inputs_text);
 }
 
-/* Lengths of tables and tapes. */
-static void measure(const scene *s)
+static void test_scene(const scene *s)
 {
+    now = s;
+    size.rows = s->rows;
+    size.columns = s->columns;
     entries = size.rows * (size.columns + 1);
     table_len = entries * size.n;
     if (s->step == WHOLE) {
@@ -1055,61 +811,23 @@ static void measure(const scene *s)
                            : model_full_mask_draws(size.field, size.n, size.rows);
         nonzero_len = size.rows * (size.n - 1);
     } else {
+        record r = first_record();
+        here = place_of(&r);
         mask_len = model_mask_draws(size.field, size.n, size.columns, s->step, s->j);
         nonzero_len = model_nonzero_draws(size.n, s->step);
     }
-    new_masks = mask_len;
-    if (s->looked_at == BEGINNING) { /* Clear(1,2), and the step after it, which its window ends with */
-        uint64_t masks, nonzeros;
-        model_taken(size.field, size.n, size.rows, HZ_CLEAR, 1, 4, &masks, &nonzeros);
-        new_masks = masks;
-    }
-}
-
-/* In F256 nothing that is opened may choose an address, so one look with everything new is
- * enough for large solves. F16 has tables, which what is opened is looked up in. */
-static void test_scene(const scene *s)
-{
-    bool small = s->looked_at == EVERY_STEP;
-    now = s;
-    size.rows = s->rows;
-    size.columns = s->columns;
-    if (s->step != WHOLE) {
-        record r = first_record();
-        here = place_of(&r);
-    }
-    measure(s);
-    make_room();
-    runs = s->looked_at == WAYS ? FEW : RUNS;
     make_new();
-    call(&inputs[0], (wanted){0}, &first);
-    if (s->looked_at != WAYS)
-        test_order();
-    else
-        call_all(NULL, 0);
+    call_all(true);
+    test_order();
     if (s->step == HZ_CHECK) { /* it opens which way to take, and then takes it */
         test_same_opened(false, "all new but the flag, which is 0");
         test_same_opened(true, "all new but the flag, which is 1");
         return;
     }
     test_branches("all new");
-    if (size.field == 256)
+    if (size.field == 256) /* F16 has tables, which what is opened is looked up in */
         test_addresses("all new");
-    if (!small)
-        runs = FEW;
-    if (small || size.field == 16)
-        test_same_opened(false, "all new but what is opened");
-}
-
-static void print_whole_tests(void)
-{
-    printf("whole solves, tests by size:");
-    for (size_t i = 0; i < sizeof scenes / sizeof *scenes; i++)
-        if (scenes[i].step == WHOLE) {
-            print_size(&scenes[i]);
-            printf(" %u,", whole_tests[i]);
-        }
-    printf(" of %u\n", passed + failed);
+    test_same_opened(false, "all new but what is opened");
 }
 
 int main(int argc, char **argv)
@@ -1127,7 +845,6 @@ int main(int argc, char **argv)
                     test_scene(&scenes[i]);
     print("instructions done or not by a condition on a secret", &choices);
     print("look-ups in a table by a single share", &look_ups);
-    print_whole_tests();
     printf("%u passed, %u failed\n", passed, failed);
     return failed != 0;
 }

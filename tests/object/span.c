@@ -30,6 +30,14 @@ static bool is_zero(const series *v)
     return any == 0;
 }
 
+static bool odd_in_common(const series *a, const series *b)
+{
+    uint64_t sum = 0;
+    for (int i = 0; i < WORDS; i++)
+        sum ^= a->word[i] & b->word[i];
+    return __builtin_parityll(sum);
+}
+
 static series reduced(const span *s, series v, name_set *names)
 {
     for (size_t k = 0; k < s->rank; k++)
@@ -61,33 +69,22 @@ bool span_add(span *s, const series *v, size_t name)
     return true;
 }
 
-/* A pivot is the first bit that it can be, so all of them are among those that a test
- * looks at. Were one not, the test would be of nothing and turn nothing away. */
-static void make_test(const span *s, uint64_t test[TEST_WORDS])
-{
-    for (int i = 0; i < TEST_WORDS; i++)
-        for (int byte = 0; byte < 8; byte++)
-            test[i] = test[i] << 8 | (uint8_t)(rand() >> 8);
-    for (size_t k = 0; k < s->rank; k++) {
-        if (s->pivot[k] >= 64 * TEST_WORDS) {
-            memset(test, 0, TEST_WORDS * sizeof *test);
-            return;
-        }
-        if (test_is_odd(test, &s->row[k]))
-            test[s->pivot[k] / 64] ^= (uint64_t)1 << s->pivot[k] % 64;
-    }
-}
-
 void span_close(span *s)
 {
-    for (int t = 0; t < TESTS; t++)
-        make_test(s, s->test[t]);
+    for (int t = 0; t < TESTS; t++) {
+        series *v = &s->test[t];
+        for (int i = 0; i < RUNS; i++)
+            v->run[i] = (uint8_t)(rand() >> 8);
+        for (size_t k = 0; k < s->rank; k++)
+            if (odd_in_common(v, &s->row[k]))
+                v->word[s->pivot[k] / 64] ^= (uint64_t)1 << s->pivot[k] % 64;
+    }
 }
 
 bool span_find(const span *s, const series *v, name_set *names)
 {
     for (int t = 0; t < TESTS; t++)
-        if (test_is_odd(s->test[t], v))
+        if (odd_in_common(&s->test[t], v))
             return false;
     memset(names, 0, sizeof *names);
     series rest = reduced(s, *v, names);

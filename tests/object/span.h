@@ -21,14 +21,13 @@ typedef struct {
 } name_set;
 
 #define TESTS 32
-#define TEST_WORDS 6 /* a test looks at the first 48 runs only, which are enough to turn most series away */
 
 typedef struct {
     size_t rank;
     series row[MAX_NAMES];     /* sums of names: bit `pivot` is 1 in no other row */
     unsigned pivot[MAX_NAMES];
     name_set names[MAX_NAMES]; /* of which names */
-    uint64_t test[TESTS][TEST_WORDS]; /* an even number of bits in common with each row */
+    series test[TESTS];        /* an even number of bits in common with each row */
 } span;
 
 /* False where the series is the sum of some before it: it is left out then. */
@@ -36,14 +35,6 @@ bool span_add(span *s, const series *v, size_t name);
 
 /* To be called after the last name. */
 void span_close(span *s);
-
-static inline bool test_is_odd(const uint64_t test[TEST_WORDS], const series *v)
-{
-    uint64_t sum = 0;
-    for (int i = 0; i < TEST_WORDS; i++)
-        sum ^= test[i] & v->word[i];
-    return __builtin_parityll(sum);
-}
 
 /* Whether v is a sum of names, and of which. */
 bool span_find(const span *s, const series *v, name_set *names);

@@ -31,15 +31,11 @@ typedef struct {
 
 INLINE uint64_t step(work *t, unsigned w, unsigned n, place at, uint8_t *solution)
 {
-    planes of_row[8];
     switch (at.step) {
     case HZ_MIX: mix(t, w, n, at.r, at.j, at.k); return HZ_MOVED;
     case HZ_CHECK: return check(t, w, n, at.r, at.j) && !at.wide ? HZ_STOPPED : HZ_MOVED;
     case HZ_SCALE: scale(t, w, n, at.r, at.j); return HZ_MOVED;
-    case HZ_CLEAR:
-        prepare_clears(t, w, n, at.r, at.j, of_row);
-        clear(t, w, n, of_row, at.j, at.k);
-        return HZ_MOVED;
+    case HZ_CLEAR: clear(t, w, n, at.r, at.j, at.k); return HZ_MOVED;
     case HZ_OPEN: solution[at.j] = open_unknown(t, w, n, at.r); return at.r == 0 ? HZ_DONE : HZ_OPENED;
     default: lift(t, w, n, at.r, at.j, solution[at.j]); return HZ_MOVED;
     }

@@ -28,7 +28,7 @@ static void read_listing(const char *file)
 
 const char *trace_text(uint32_t pc)
 {
-    pc = pc_of(pc);
+    pc &= ~NOT_DONE;
     return text[pc - CODE] == NULL ? "not in the listing" : text[pc - CODE];
 }
 
@@ -55,12 +55,10 @@ static uint32_t next_in_listing(uint32_t pc)
 typedef struct {
     emulator *e;
     trace *t;
-    wanted w;
+    bool values;
     uint64_t before[MAX_REGISTERS][2];
     uint32_t conditional; /* the next instruction that is under a condition, */
     size_t left;          /* and how many are */
-    bool stop;            /* before the next instruction */
-    bool ways_parted, touches_parted; /* from the first run's */
 } tracer;
 
 static tracer tracing; /* the call that is traced */
@@ -71,28 +69,18 @@ static tracer tracing; /* the call that is traced */
         (list) = realloc((list), (room) * sizeof *(list)); \
     }
 
-static void new_change(trace *t, size_t at, uint8_t where, uint8_t len, const void *bytes)
+static void new_change(trace *t, uint32_t at, uint8_t where, uint8_t len, const void *bytes)
 {
     GROW(t->changes, t->change_count, t->change_room)
     change *c = &t->changes[t->change_count++];
-    c->at = (uint32_t)at;
+    c->at = at;
     c->where = where;
     c->len = len;
     memcpy(c->bytes, bytes, len);
 }
 
-/* Whether the values of an instruction are wanted. Numbers only grow. */
-static bool in_window(tracer *r, size_t at)
-{
-    while (r->w.window_count > 0 && at >= r->w.windows->to) {
-        r->w.windows++;
-        r->w.window_count--;
-    }
-    return r->w.window_count > 0 && at >= r->w.windows->from;
-}
-
-/* Notes for instruction number `at` the registers that are new, or all of them. */
-static void note_registers(uc_engine *uc, tracer *r, size_t at, bool all)
+/* Notes the registers that the instruction before has changed. */
+static void note_registers(uc_engine *uc, tracer *r)
 {
     uint64_t now[MAX_REGISTERS][2] = {{0}};
     void *to[MAX_REGISTERS];
@@ -100,23 +88,17 @@ static void note_registers(uc_engine *uc, tracer *r, size_t at, bool all)
         to[i] = now[i];
     uc_reg_read_batch(uc, r->e->number, to, (int)r->e->registers);
     for (size_t i = 0; i < r->e->registers; i++)
-        if (all || now[i][0] != r->before[i][0] || now[i][1] != r->before[i][1]) {
+        if (now[i][0] != r->before[i][0] || now[i][1] != r->before[i][1]) {
             memcpy(r->before[i], now[i], 16);
-            new_change(r->t, at, (uint8_t)i, r->e->len[i], now[i]);
+            if (r->t->length > 0)
+                new_change(r->t, (uint32_t)r->t->length - 1, (uint8_t)i, r->e->len[i], now[i]);
         }
 }
 
-static void new_instruction(tracer *r, uint32_t pc)
+static void new_instruction(trace *t, uint32_t pc)
 {
-    trace *t = r->t, *first = r->w.first;
-    size_t at = t->length++;
-    if (first == NULL) {
-        GROW(t->pc, at, t->pc_room)
-        t->pc[at] = pc;
-    } else if (!r->ways_parted && (r->ways_parted = at >= first->length || pc_of(first->pc[at]) != pc_of(pc)))
-        t->alike = at;
-    else if (!r->ways_parted && ((first->pc[at] ^ pc) & NOT_DONE) != 0)
-        first->pc[at] |= CHOSEN;
+    GROW(t->pc, t->length, t->pc_room)
+    t->pc[t->length++] = pc;
 }
 
 /* The emulator does not tell of an instruction whose condition does not hold; the machine goes over it all the same. */
@@ -124,21 +106,13 @@ static void on_instruction(uc_engine *uc, uint64_t address, uint32_t size, void 
 {
     (void)size;
     tracer *r = the_tracer;
-    trace *t = r->t;
-    if (t->length > 0 && in_window(r, t->length - 1))
-        note_registers(uc, r, t->length - 1, false);
-    else if (in_window(r, t->length))
-        note_registers(uc, r, t->length, true);
-    if (r->stop || (r->w.first != NULL && r->w.first->broken_off && t->length >= r->w.first->length)) {
-        r->stop = t->broken_off = true;
-        uc_emu_stop(uc);
-        return;
-    }
+    if (r->values)
+        note_registers(uc, r);
     for (; r->left > 0 && r->conditional != address; r->left--) {
-        new_instruction(r, r->conditional | NOT_DONE);
+        new_instruction(r->t, r->conditional | NOT_DONE);
         r->conditional = next_in_listing(r->conditional);
     }
-    new_instruction(r, (uint32_t)address);
+    new_instruction(r->t, (uint32_t)address);
     if (r->left > 0) {
         r->left--;
         r->conditional = next_in_listing(r->conditional);
@@ -146,40 +120,16 @@ static void on_instruction(uc_engine *uc, uint64_t address, uint32_t size, void 
         r->conditional = next_in_listing((uint32_t)address);
 }
 
-static void new_touch(tracer *r, touch new)
-{
-    trace *t = r->t;
-    const trace *first = r->w.first;
-    size_t number = t->touch_count++;
-    if (first == NULL) {
-        GROW(t->touches, number, t->touch_room)
-        t->touches[number] = new;
-        return;
-    }
-    if (r->touches_parted)
-        return;
-    const touch *there = number < first->touch_count ? &first->touches[number] : NULL;
-    if (there == NULL || there->at != new.at || there->write != new.write) {
-        r->touches_parted = true;
-        t->touches_alike = number;
-    } else if (there->address != new.address) {
-        GROW(t->others, t->other_count, t->other_room)
-        t->others[t->other_count++] = (other){number, new.address};
-    }
-}
-
 static void on_touch(uc_engine *uc, uc_mem_type type, uint64_t address, int size, int64_t value, void *the_tracer)
 {
     (void)uc;
     tracer *r = the_tracer;
-    if (r->t->broken_off)
-        return;
-    size_t at = r->t->length - 1;
-    bool write = type == UC_MEM_WRITE;
-    new_touch(r, (touch){(uint32_t)at, write, (uint32_t)address});
-    if (write && in_window(r, at))
-        new_change(r->t, at, STORE, (uint8_t)size, &value);
-    r->stop = r->stop || (!write && address >= r->w.stop_from && address < r->w.stop_to);
+    trace *t = r->t;
+    uint32_t at = (uint32_t)t->length - 1;
+    GROW(t->touches, t->touch_count, t->touch_room)
+    t->touches[t->touch_count++] = (touch){at, type == UC_MEM_WRITE, address};
+    if (r->values && type == UC_MEM_WRITE)
+        new_change(t, at, STORE, (uint8_t)size, &value);
 }
 
 void trace_open(emulator *e, const char *listing)
@@ -187,21 +137,14 @@ void trace_open(emulator *e, const char *listing)
     uc_hook hook;
     read_listing(listing);
     tracing.e = e;
-    emulator_stop_counting(e);
     uc_hook_add(e->uc, &hook, UC_HOOK_CODE, (void *)on_instruction, &tracing, 1, 0);
     uc_hook_add(e->uc, &hook, UC_HOOK_MEM_READ | UC_HOOK_MEM_WRITE, (void *)on_touch, &tracing, 1, 0);
 }
 
 uint64_t trace_call(emulator *e, const char *function, size_t numbers, const uint64_t *arguments, size_t count,
-                    const wanted *w, trace *t)
+                    bool values, trace *t)
 {
-    tracing = (tracer){.e = e, .t = t, .w = *w};
-    t->length = t->touch_count = t->other_count = t->change_count = 0;
-    t->broken_off = false;
-    uint64_t result = emulator_call(e, function, numbers, arguments, count);
-    if (!tracing.ways_parted)
-        t->alike = t->length;
-    if (!tracing.touches_parted)
-        t->touches_alike = t->touch_count;
-    return result;
+    tracing = (tracer){.e = e, .t = t, .values = values};
+    t->length = t->touch_count = t->change_count = 0;
+    return emulator_call(e, function, numbers, arguments, count);
 }

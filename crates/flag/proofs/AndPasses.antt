@@ -8,13 +8,13 @@ use native.Mathlib.Omega.{arith}
 use native.Mathlib.Decide.{ℕ_discrete, dec_lt}
 use native.Mathlib.Nat.{mod-mod, mod-eq_of_lt}
 use lib.Bits.{bit_xor, bit_and}
-use lib.ListN.{length, drop, get_or, length-set}
+use lib.ListN.{length, get_or, length-set}
 use lib.Seq.{get_or-set_same, get_or-set_other}
 use Rattle.field.specs.Field.{Ring, Binary, field_of, bitwise}
 use Rattle.field.proofs.Fields.{field_of_lem, bitwise_of}
 use Rattle.sharing.specs.Run.{tab, before, pairs, pair_turn, pairs_of, over_pairs}
 use Rattle.sharing.specs.Rules.{draw_at, crossed, product_turn, product_over}
-use Rattle.flag.specs.Flag.{and_of, fresh_shift, fold}
+use Rattle.flag.specs.Flag.{and_of}
 use Rattle.flag.specs.Code.Passes.{cross_turn, cross_terms, own_terms, sum_turn, summed}
 use Rattle.sharing.proofs.Pairs.{tab-length, tab-at, before_mono, pair_lt, run_holds}
 use Rattle.flag.proofs.Words.{Same, add_same, same_add, same_sub, over_same, reduced_same}
@@ -134,13 +134,11 @@ module _ {f : ℕ} (B : Binary f) where
     unfolding and_of
     passes_and = reduced_same B pairs_same
 
-  -- by what each of the two calls has left; d is the number of draws that refresh t
-  pub fold_done : (n d h : ℕ) (ds z s x₀ y₀ t x s₁ : List ℕ) → n ≡ length s → pairs n ≡ d → z ≡ drop d ds → d ≤ length x₀ → d ≤ length y₀
-      → t ≡ fresh_shift (field_of f) h ds s
+  -- by what each of the two calls has left
+  pub passes_done : (n : ℕ) (z s u x₀ y₀ t x s₁ : List ℕ) → n ≡ length s → pairs n ≤ length x₀ → pairs n ≤ length y₀
+      → t ≡ u
       → x ≡ cross_terms n z s t x₀
       → s₁ ≡ summed (field_of f) n z s t x y₀
-      → s₁ ≡ fold (field_of f) h ds s
-  unfolding fold
-  fold_done n d h ds z s x₀ y₀ t x s₁ e k hz lx ly ht hx g =
-      let p : pairs (length s) ≡ d = rw (← e) k in
-      g ∙ rw (hx, ht, e, hz, ← p) (passes_and (drop (pairs (length s)) ds) s (fresh_shift (field_of f) h ds s) x₀ y₀ (rw p lx) (rw p ly))
+      → s₁ ≡ and_of (field_of f) z s u
+  passes_done n z s u x₀ y₀ t x s₁ e lx ly ht hx h =
+      h ∙ rw (hx, ht, e) (passes_and z s u x₀ y₀ (rw (← e) lx) (rw (← e) ly))

@@ -1,10 +1,10 @@
 // The zero flag of 01, refreshed as R-6 has it, and And, of which it is made. Stands on sharing.
 // A sharing is a slice of its n shares, n from 2 to 4; ds is a part of the mask tape that begins at the rule's own first draw and is at
 // least as long as the rule needs. Sums are exclusive or here, so that the folds serve the binary fields.
-ghost use Rattle.std.specs.Prelude.{◌≡◌, ◌/◌, ◌<◌, ◌≤◌, length};
-ghost use Rattle.field.specs.Field.{Binary, field_of, bits};
-ghost use Rattle.sharing.specs.Run.{before, pairs, pairs_of, over_pairs};
-ghost use Rattle.flag.specs.Flag.{folds, fold_draws, flag_draws, complemented, shifted, fresh_shift, fold, low_bits, zero_flag};
+ghost use Rattle.std.specs.Prelude.{◌≡◌, ◌+◌, ◌-◌, ◌*◌, ◌<◌, ◌≤◌, length, drop};
+ghost use Rattle.field.specs.Field.{Binary, field_of};
+ghost use Rattle.sharing.specs.Run.{run, before, pairs, pairs_of, over_pairs};
+ghost use Rattle.flag.specs.Flag.{and_of, folds, fold_draws, flag_draws, complemented, shifted, fresh_shift, fold, fold_turn, low_bits, zero_flag};
 ghost use Rattle.flag.specs.Code.Passes.{cross_turn, cross_terms, own_terms, sum_turn, reduced, summed};
 
 // How many folds the zero flag has.
@@ -59,36 +59,27 @@ fn shift(f: u64, n: usize, t: &mut [u8], s: &[u8], h: u8)
     }
 }
 
-// x. zero is a 0 that the compiler does not see through, and it adds up no exclusive or in another order across this sum: so no two cross terms
-// ever meet without their draw in the machine (docs/OBJECT.md).
-fn kept(x: u8, zero: u8) -> u8
-    requires { zero ≡ 0 }
-    ensures { result ≡ x }
-{
-    x + zero
-}
-
 // The pairs of i; the first of them is pair number at. y_k becomes z_k and the term of a_i and b_j.
-fn cross_of(n: usize, y: &mut [u8], z: &[u8], a: &[u8], b: &[u8], zero: u8, i: usize, at: usize)
+fn cross_of(n: usize, y: &mut [u8], z: &[u8], a: &[u8], b: &[u8], i: usize, at: usize)
     requires n_bound { (n ≤ 4) × (length a.now ≡ n) × (length b.now ≡ n) × (pairs n ≤ length y.old) × (pairs n ≤ length z.now) }
-    requires i_lt_n { (i < n) × (at ≡ before n i) × (zero ≡ 0) }
+    requires i_lt_n { (i < n) × (at ≡ before n i) }
     ensures { y.new ≡ pairs_of (cross_turn z.now a.now b.now) n i y.old }
 {
     let m = n - 1 - i;
     for v in 0..m {
         let j = i + 1 + v;
         let k = at + v;
-        y[k] = kept(z[k] ^ (a[i] & b[j]), zero);
+        y[k] = z[k] ^ (a[i] & b[j]);
     }
 }
 
-fn cross(n: usize, y: &mut [u8], z: &[u8], a: &[u8], b: &[u8], zero: u8)
-    requires { (n ≤ 4) × (length a.now ≡ n) × (length b.now ≡ n) × (pairs n ≤ length y.old) × (pairs n ≤ length z.now) × (zero ≡ 0) }
+fn cross(n: usize, y: &mut [u8], z: &[u8], a: &[u8], b: &[u8])
+    requires { (n ≤ 4) × (length a.now ≡ n) × (length b.now ≡ n) × (pairs n ≤ length y.old) × (pairs n ≤ length z.now) }
     ensures { y.new ≡ over_pairs (cross_turn z.now a.now b.now) n y.old }
 {
     let mut at: usize = 0;
     for i in 0..n {
-        cross_of(n, y, z, a, b, zero, i, at);
+        cross_of(n, y, z, a, b, i, at);
         at += n - 1 - i;
     }
 }
@@ -141,154 +132,102 @@ fn reduce(f: u64, n: usize, s: &mut [u8])
     }
 }
 
-// Of a fold, what comes first: t becomes the shifted shares, refreshed pair by pair with ds, and each first cross term joins its draw, in x.
-// z are And's draws. The refresh goes by the pass that And has, and not by sharing's, so that n is a number in it too.
-fn first_terms(
-    f: u64,
-    n: usize,
-    t: &mut [u8],
-    x: &mut [u8],
-    s: &[u8],
-    zero: u8,
-    h: u8,
-    ds: &[u8],
-    z: &[u8],
-)
+// Of a fold, what comes before the sharing is stored to: t becomes the shifted shares, refreshed pair by pair with ds, and each first cross
+// term joins its draw, in x. z are And's draws. The refresh goes by the pass that And has, and not by sharing's, so that n is a number in it too.
+fn first_terms(f: u64, n: usize, t: &mut [u8], x: &mut [u8], s: &[u8], h: u8, ds: &[u8], z: &[u8])
     requires binary { Binary f }
-    requires h_bound { (h < 8) × (2 ≤ n) × (n ≤ 4) × (n ≡ length s.now) × (length t.old ≡ n) × (pairs n ≤ length ds.now) × (pairs n ≤ length z.now) × (pairs n ≤ length x.old) × (zero ≡ 0) }
+    requires h_bound { (h < 8) × (2 ≤ n) × (n ≤ 4) × (n ≡ length s.now) × (length t.old ≡ n) × (pairs n ≤ length ds.now) × (pairs n ≤ length z.now) × (pairs n ≤ length x.old) }
     ensures t_after { t.new ≡ fresh_shift (field_of f) h ds.now s.now }
     ensures x_after { x.new ≡ cross_terms n z.now s.now t.new x.old }
 {
     shift(f, n, t, s, h);
     sum_pairs(n, t, ds, ds);
     reduce(f, n, t);
-    cross(n, x, z, s, t, zero);
+    cross(n, x, z, s, t);
 }
 
-// And what comes after: each second cross term joins what stands in x, in y, and then all is summed.
-fn second_terms(
-    f: u64,
-    n: usize,
-    s: &mut [u8],
-    t: &[u8],
-    x: &[u8],
-    y: &mut [u8],
-    zero: u8,
-    z: &[u8],
-)
-    requires { (2 ≤ n) × (n ≤ 4) × (n ≡ length s.old) × (length t.now ≡ n) × (pairs n ≤ length z.now) × (pairs n ≤ length x.now) × (pairs n ≤ length y.old) × (zero ≡ 0) }
+// And what comes after: s is stored to; then each second cross term joins what stands in x, in y; then s is stored to again.
+fn second_terms(f: u64, n: usize, s: &mut [u8], t: &[u8], x: &[u8], y: &mut [u8], z: &[u8])
+    requires { (2 ≤ n) × (n ≤ 4) × (n ≡ length s.old) × (length t.now ≡ n) × (pairs n ≤ length z.now) × (pairs n ≤ length x.now) × (pairs n ≤ length y.old) }
     ensures { s.new ≡ summed (field_of f) n z.now s.old t.now x.now y.old }
 {
     let mut old = [0u8; 4];
     own_terms(n, s, &mut old[..n], t);
-    cross(n, y, x, t, &old[..n], zero);
+    cross(n, y, x, t, &old[..n]);
     sum_pairs(n, s, z, y);
     reduce(f, n, s);
 }
 
-// Half the width of an element: by what the first fold shifts.
-fn half_width(f: u64) -> u8
-    ensures { (result ≡ bits f / 2) × (result ≤ 4) }
-{
-    if f == 16 { 2 } else { 4 }
-}
-
-// A fold and the flag for each number of shares, which stands in the calls, so that the compiler unrolls the loops over shares and pairs. In a fold
-// s becomes And(s, t), t being s shifted right by h and refreshed.
-fn fold_2(f: u64, s: &mut [u8], zero: u8, h: u8, ds: &[u8])
+// The passes of a fold, with a number for n in each call, so that the compiler unrolls the loops. It has to take x, y and s for parts of one
+// memory, so that in the machine too no sum of two cross terms ever stands without the draw.
+fn passes(
+    f: u64,
+    s: &mut [u8],
+    t: &mut [u8],
+    x: &mut [u8],
+    y: &mut [u8],
+    h: u8,
+    ds: &[u8],
+    z: &[u8],
+)
     requires binary { Binary f }
-    requires h_bound { (h < 8) × (length s.old ≡ 2) × (fold_draws 2 ≤ length ds.now) × (zero ≡ 0) }
-    ensures { s.new ≡ fold (field_of f) h ds.now s.old }
+    requires h_bound { (h < 8) × (2 ≤ length s.old) × (length s.old ≤ 4) × (length t.old ≡ length s.old) × (pairs (length s.old) ≤ length ds.now) }
+    requires s_in_bounds { (pairs (length s.old) ≤ length z.now) × (pairs (length s.old) ≤ length x.old) × (pairs (length s.old) ≤ length y.old) }
+    ensures { s.new ≡ and_of (field_of f) z.now s.old (fresh_shift (field_of f) h ds.now s.old) }
 {
-    let mut t = [0u8; 2];
-    let mut x = [0u8; 1];
-    let mut y = [0u8; 1];
-    first_terms(f, 2, &mut t[..], &mut x[..], s, zero, h, ds, &ds[1..]);
-    second_terms(f, 2, s, &t[..], &x[..], &mut y[..], zero, &ds[1..]);
-}
-
-fn flag_2(f: u64, out: &mut [u8], s: &[u8], zero: u8, ds: &[u8])
-    requires binary { Binary f }
-    requires s_len { (length s.now ≡ 2) × (length out.old ≡ 2) × (flag_draws f 2 ≤ length ds.now) × (zero ≡ 0) }
-    ensures { out.new ≡ zero_flag f ds.now s.now }
-{
-    let mut a = [0u8; 2];
-    sharing::copy_into(&mut a[..], &s[..2]);
-    complement(f, &mut a[..]);
-    let count = fold_count(f);
-    let mut h = half_width(f);
-    let mut at: usize = 0;
-    for i in 0..count {
-        fold_2(f, &mut a[..], zero, h, &ds[at..]);
-        h /= 2;
-        at += 2;
+    let n = s.len();
+    if n == 2 {
+        first_terms(f, 2, t, x, s, h, ds, z);
+        second_terms(f, 2, s, t, x, y, z);
+    } else if n == 3 {
+        first_terms(f, 3, t, x, s, h, ds, z);
+        second_terms(f, 3, s, t, x, y, z);
+    } else {
+        first_terms(f, 4, t, x, s, h, ds, z);
+        second_terms(f, 4, s, t, x, y, z);
     }
-    low_bits(&mut a[..]);
-    sharing::copy_into(out, &a[..]);
 }
 
-fn fold_3(f: u64, s: &mut [u8], zero: u8, h: u8, ds: &[u8])
+// One fold of the flag: s becomes And(s, t), t being s shifted right by h and refreshed. x and y are lent to work in.
+fn fold(f: u64, s: &mut [u8], x: &mut [u8], y: &mut [u8], h: u8, ds: &[u8])
     requires binary { Binary f }
-    requires h_bound { (h < 8) × (length s.old ≡ 3) × (fold_draws 3 ≤ length ds.now) × (zero ≡ 0) }
+    requires h_bound { (h < 8) × (2 ≤ length s.old) × (length s.old ≤ 4) × (fold_draws (length s.old) ≤ length ds.now) }
+    requires s_in_bounds { (pairs (length s.old) ≤ length x.old) × (pairs (length s.old) ≤ length y.old) }
     ensures { s.new ≡ fold (field_of f) h ds.now s.old }
 {
-    let mut t = [0u8; 3];
-    let mut x = [0u8; 3];
-    let mut y = [0u8; 3];
-    first_terms(f, 3, &mut t[..], &mut x[..], s, zero, h, ds, &ds[3..]);
-    second_terms(f, 3, s, &t[..], &x[..], &mut y[..], zero, &ds[3..]);
-}
-
-fn flag_3(f: u64, out: &mut [u8], s: &[u8], zero: u8, ds: &[u8])
-    requires binary { Binary f }
-    requires s_len { (length s.now ≡ 3) × (length out.old ≡ 3) × (flag_draws f 3 ≤ length ds.now) × (zero ≡ 0) }
-    ensures { out.new ≡ zero_flag f ds.now s.now }
-{
-    let mut a = [0u8; 3];
-    sharing::copy_into(&mut a[..], &s[..3]);
-    complement(f, &mut a[..]);
-    let count = fold_count(f);
-    let mut h = half_width(f);
-    let mut at: usize = 0;
-    for i in 0..count {
-        fold_3(f, &mut a[..], zero, h, &ds[at..]);
-        h /= 2;
-        at += 6;
-    }
-    low_bits(&mut a[..]);
-    sharing::copy_into(out, &a[..]);
-}
-
-fn fold_4(f: u64, s: &mut [u8], zero: u8, h: u8, ds: &[u8])
-    requires binary { Binary f }
-    requires h_bound { (h < 8) × (length s.old ≡ 4) × (fold_draws 4 ≤ length ds.now) × (zero ≡ 0) }
-    ensures { s.new ≡ fold (field_of f) h ds.now s.old }
-{
+    let n = s.len();
+    let first = sharing::pair_count(n);
     let mut t = [0u8; 4];
+    passes(f, s, &mut t[..n], x, y, h, ds, &ds[first..]);
+}
+
+// The last two folds of the flag: h is 2, then 1.
+fn fold_twice(f: u64, s: &mut [u8], x: &mut [u8], y: &mut [u8], ds: &[u8])
+    requires binary { Binary f }
+    requires in_bounds { (2 ≤ length s.old) × (length s.old ≤ 4) × (2 * fold_draws (length s.old) ≤ length ds.now) }
+    requires s_in_bounds { (pairs (length s.old) ≤ length x.old) × (pairs (length s.old) ≤ length y.old) }
+    ensures { s.new ≡ fold (field_of f) 1 (drop (fold_draws (length s.old)) ds.now) (fold (field_of f) 2 ds.now s.old) }
+{
+    let turn = fold_draws(s.len());
+    fold(f, s, x, y, 2, ds);
+    fold(f, s, x, y, 1, &ds[turn..]);
+}
+
+// The folds of the flag: h is half the width, then half of that, down to 1.
+fn fold_all(f: u64, s: &mut [u8], ds: &[u8])
+    requires binary { Binary f }
+    requires in_bounds { (2 ≤ length s.old) × (length s.old ≤ 4) × (flag_draws f (length s.old) ≤ length ds.now) }
+    ensures { s.new ≡ run (fold_turn f ds.now (length s.old)) (folds f) s.old }
+{
+    let turn = fold_draws(s.len());
     let mut x = [0u8; 6];
     let mut y = [0u8; 6];
-    first_terms(f, 4, &mut t[..], &mut x[..], s, zero, h, ds, &ds[6..]);
-    second_terms(f, 4, s, &t[..], &x[..], &mut y[..], zero, &ds[6..]);
-}
-
-fn flag_4(f: u64, out: &mut [u8], s: &[u8], zero: u8, ds: &[u8])
-    requires binary { Binary f }
-    requires s_len { (length s.now ≡ 4) × (length out.old ≡ 4) × (flag_draws f 4 ≤ length ds.now) × (zero ≡ 0) }
-    ensures { out.new ≡ zero_flag f ds.now s.now }
-{
-    let mut a = [0u8; 4];
-    sharing::copy_into(&mut a[..], &s[..4]);
-    complement(f, &mut a[..]);
-    let count = fold_count(f);
-    let mut h = half_width(f);
-    let mut at: usize = 0;
-    for i in 0..count {
-        fold_4(f, &mut a[..], zero, h, &ds[at..]);
-        h /= 2;
-        at += 12;
+    if f == 16 {
+        fold_twice(f, s, &mut x[..], &mut y[..], ds);
+    } else {
+        fold(f, s, &mut x[..], &mut y[..], 4, ds);
+        fold_twice(f, s, &mut x[..], &mut y[..], &ds[turn..]);
     }
-    low_bits(&mut a[..]);
-    sharing::copy_into(out, &a[..]);
 }
 
 // out becomes the flag of s: its shares add to 1 where s is a sharing of 0, and to 0 otherwise.
@@ -296,13 +235,8 @@ pub fn zero_flag(f: u64, out: &mut [u8], s: &[u8], ds: &[u8])
     requires { (2 ≤ length s.now) × (length s.now ≤ 4) × (length out.old ≡ length s.now) × (flag_draws f (length s.now) ≤ length ds.now) }
     ensures { out.new ≡ zero_flag f ds.now s.now }
 {
-    let n = s.len();
-    let zero = field::unseen_zero((ds.len() % 16) as u8);
-    if n == 2 {
-        flag_2(f, out, s, zero, ds);
-    } else if n == 3 {
-        flag_3(f, out, s, zero, ds);
-    } else {
-        flag_4(f, out, s, zero, ds);
-    }
+    sharing::copy_into(out, s);
+    complement(f, out);
+    fold_all(f, out, ds);
+    low_bits(out);
 }

@@ -5,24 +5,23 @@ use Prim.Native.Nat.{ℕ, suc, ◌+◌, ◌-◌, ◌*◌, ◌/◌, ◌%◌, ◌<
 use mathlib.Core.List.{List}
 use native.Mathlib.Omega.{arith}
 use native.Mathlib.Nat.{suc-mul, mul-le-mul_right, add_comm, mod-lt, mod-mod, mod-eq_of_lt, add-mul-mod_self_right}
-use lib.Bits.{bit_xor, bit_and}
+use lib.Bits.{bit_xor}
 use lib.ListN.{length, get_or, take, drop}
 use lib.Seq.{get_or-take, get_or-drop}
 use Rattle.field.specs.Field.{Binary, field_of, bits}
 use Rattle.sharing.specs.Run.{before, pairs}
 use Rattle.sharing.specs.Rules.{draw_at, crossed, product_over, product}
-use Rattle.sharing.proofs.Pairs.{tab-at}
-use Rattle.row.specs.Code.Streams.{repeated, doubled_rows, masks_of}
+use Rattle.row.specs.Code.Streams.{repeated, doubled_rows}
 use Rattle.row.specs.Code.Spread.{spread_all}
-use Rattle.row.specs.Code.Products.{part, all_products}
+use Rattle.row.specs.Code.Products.{term, all_products}
 use Rattle.row.specs.Code.Gather.{gathered_byte, gather_all}
 use Rattle.sharing.specs.Lists.{Below}
 use Rattle.row.specs.Code.Shares.{own_draws}
 use Rattle.row.specs.Rows.{Products}
-use Rattle.row.proofs.Streaming.{stream, stream_at, stream-next, repeated-at}
+use Rattle.row.proofs.Streaming.{stream, stream_at, stream-next}
 use Rattle.row.proofs.Spreading.{spread_own, spread_pair, spread_none, spread-length}
 use Rattle.row.proofs.Producing.{products_at}
-use Rattle.row.proofs.TermLaw.{term-mul, part-term, part_choice, choice_mul}
+use Rattle.row.proofs.TermLaw.{term-mul}
 use Rattle.row.proofs.Gathering.{gather_at}
 use Rattle.row.proofs.GatherLaw.{gathered-sum}
 use Rattle.row.proofs.ShareLaw.{share_law}
@@ -32,19 +31,22 @@ use Rattle.row.proofs.Cells.{in_block, byte_in_block, block_there, own-term, fir
 share_of : (n x s : ℕ) → s < n → (x * n + s) % n ≡ s
 share_of n x s h = ap (λ (y : ℕ). y % n) (add_comm (x * n) s) ∙ add-mul-mod_self_right s x n ∙ mod-eq_of_lt h
 
-module _ {f : ℕ} (B : Binary f) (n columns turns r j blocks e wide span : ℕ) (ds a row c M : List ℕ) (w : ℕ)
-    (times : (x i y : ℕ) → x < turns → i < n → part M r w (x * n + i) y ≡ (field_of f).mul (get_or a i 0) y)
-    (few : 1 ≤ n) (hj : 1 ≤ j) (again : j < turns) (he : 1 ≤ e)
+module _ {f : ℕ} (B : Binary f) (n columns turns r j blocks e wide span : ℕ) (ds a row c m : List ℕ)
+    (few : 1 ≤ n) (long : 1 ≤ r) (room : (bits f - 1) * r + r ≤ length m) (fits : turns * n ≤ r)
+    (hj : 1 ≤ j) (again : j < turns) (he : 1 ≤ e)
     (all_blocks : columns * n ≤ blocks * (j * n)) (blocks-in : blocks * (j * n) ≤ span)
     (all-wide : columns * n ≤ wide * (e * n)) (wide-in : wide * (e * n) ≤ span)
     (rows_in : n * span ≤ length c) (row_in : span ≤ length row)
-    (none : (o : ℕ) → get_or c o 0 ≡ 0) (shares : length a ≡ n)
+    (none : (o : ℕ) → get_or c o 0 ≡ 0) (small : Below (field_of f).q a) (shares : length a ≡ n)
   where
+    unfoldable pub M : List ℕ
+    M = stream (bits f) n turns r a m long room fits
+
     unfoldable pub C : List ℕ
     C = spread_all n columns span ds c
 
     unfoldable pub D : List ℕ
-    D = all_products w n (j * n) r blocks span row M C
+    D = all_products (bits f) n (j * n) r blocks span row M C
 
     unfoldable Z : ℕ → ℕ → ℕ
     Z u x = get_or ds (u * pairs n + x) 0
@@ -57,17 +59,20 @@ module _ {f : ℕ} (B : Binary f) (n columns turns r j blocks e wide span : ℕ)
 
     -- what joins row d at share s of column u
     unfoldable T : ℕ → ℕ → ℕ → ℕ
-    T u s d = part M r w (u % j * n + s + n - d) (get_or row (u * n + s) 0)
+    T u s d = term M r (bits f) (u % j * n + s + n - d) (get_or row (u * n + s) 0)
 
     entry_at : (u s : ℕ) → s < n → get_or (entry u) s 0 ≡ get_or row (u * n + s) 0
     unfolding entry
     entry_at u s hs = get_or-take n (drop (u * n) row) s 0 hs ∙ get_or-drop (u * n) row s 0
 
     single : (u s d i x : ℕ) → s < n → i < n → x < turns → u % j * n + s + n - d ≡ x * n + i → T u s d ≡ P u i s
-    unfolding T P
+    unfolding T P M stream
     single u s d i x hs hi hx g =
-        ap (λ (y : ℕ). part M r w y (get_or row (u * n + s) 0)) g
-        ∙ times x i (get_or row (u * n + s) 0) hx hi
+        let l : suc x * n ≤ turns * n = mul-le-mul_right n hx in
+        ap (λ (y : ℕ). term M r (bits f) y (get_or row (u * n + s) 0)) g
+        ∙ term-mul B M r (x * n + i) (get_or a i 0) (get_or row (u * n + s) 0) (small.at i)
+        (stream_at (bits f) n turns r a m long room fits x i hx hi)
+        (λ t ht. stream-next (bits f) n turns r a m long room fits (x * n + i) t (omega (arith, suc-mul x n)) ht)
         ∙ ap ((field_of f).mul (get_or a i 0)) (sym (entry_at u s hs))
 
     inside : (u : ℕ) → u % j < turns
@@ -89,10 +94,10 @@ module _ {f : ℕ} (B : Binary f) (n columns turns r j blocks e wide span : ℕ)
         let g : u / j * (j * n) + (u % j * n + s) ≡ u * n + s = in_block n j u s in
         let e : d * span + (u * n + s) ≡ d * span + (u / j * (j * n) + (u % j * n + s)) = omega arith in
         ap (λ (y : ℕ). get_or D y 0) e
-        ∙ products_at w n (j * n) r blocks span row M C (omega (arith, spread-length n columns span ds c)) blocks-in
+        ∙ products_at (bits f) n (j * n) r blocks span row M C (omega (arith, spread-length n columns span ds c)) blocks-in
         d (u / j) (u % j * n + s) hd (block_there n j u s columns blocks hj hs hu all_blocks) (byte_in_block n j u s hj hs)
         ∙ ap₂ bit_xor (ap (λ (y : ℕ). get_or C y 0) (sym e))
-        (ap (λ (y : ℕ). part M r w (u % j * n + s + n - d) (get_or row y 0)) g)
+        (ap (λ (y : ℕ). term M r (bits f) (u % j * n + s + n - d) (get_or row y 0)) g)
 
     pair : (u s d i : ℕ) → u < columns → s < n → 1 ≤ d → i + d ≡ s → get_or C (d * span + (u * n + s)) 0 ≡ Z u (before n i + (d - 1))
     unfolding C Z
@@ -136,66 +141,9 @@ module _ {f : ℕ} (B : Binary f) (n columns turns r j blocks e wide span : ℕ)
         }
 
     -- the same of what each pass leaves, as a caller has it: replaced here, where few facts stand by, and not in each caller's goal
-    passes-end : (c₁ c₂ out : List ℕ) → c₁ ≡ spread_all n columns span ds c → c₂ ≡ all_products w n (j * n) r blocks span row M c₁
-        → out ≡ gather_all n (e * n) wide span c₂ row → Products (field_of f) n columns ds a row out
-    unfolding D C
-    passes-end c₁ c₂ out ec ep eg = rw (eg, ep, ec) passes_products
-
-module _ {f : ℕ} (B : Binary f) (n columns turns r j blocks e wide span : ℕ) (ds a row c m : List ℕ)
-    (few : 1 ≤ n) (long : 1 ≤ r) (room : (bits f - 1) * r + r ≤ length m) (fits : turns * n ≤ r)
-    (hj : 1 ≤ j) (again : j < turns) (he : 1 ≤ e)
-    (all_blocks : columns * n ≤ blocks * (j * n)) (blocks-in : blocks * (j * n) ≤ span)
-    (all-wide : columns * n ≤ wide * (e * n)) (wide-in : wide * (e * n) ≤ span)
-    (rows_in : n * span ≤ length c) (row_in : span ≤ length row)
-    (none : (o : ℕ) → get_or c o 0 ≡ 0) (small : Below (field_of f).q a) (shares : length a ≡ n)
-  where
-    unfoldable M : List ℕ
-    M = stream (bits f) n turns r a m long room fits
-
-    times : (x i y : ℕ) → x < turns → i < n → part M r (bits f) (x * n + i) y ≡ (field_of f).mul (get_or a i 0) y
-    unfolding M stream
-    times x i y hx hi =
-        let l : suc x * n ≤ turns * n = mul-le-mul_right n hx in
-        part-term B M r (x * n + i) y
-        ∙ term-mul B M r (x * n + i) (get_or a i 0) y (small.at i)
-        (stream_at (bits f) n turns r a m long room fits x i hx hi)
-        (λ t ht. stream-next (bits f) n turns r a m long room fits (x * n + i) t (omega (arith, suc-mul x n)) ht)
-
-    -- by doubles
     pub passes_left : (c₁ m₁ m₂ c₂ out : List ℕ)
         → c₁ ≡ spread_all n columns span ds c → m₁ ≡ repeated n turns a m → m₂ ≡ doubled_rows (bits f) r m₁
         → c₂ ≡ all_products (bits f) n (j * n) r blocks span row m₂ c₁ → out ≡ gather_all n (e * n) wide span c₂ row
         → Products (field_of f) n columns ds a row out
-    unfolding M stream
-    passes_left c₁ m₁ m₂ c₂ out ec em ed ep eg =
-        passes-end B n columns turns r j blocks e wide span ds a row c M (bits f) times few hj again he all_blocks blocks-in all-wide wide-in rows_in row_in none shares
-        c₁ c₂ out ec (rw (← em, ← ed) ep) eg
-
-module _ {f : ℕ} (B : Binary f) (n columns turns r j blocks e wide span : ℕ) (ds a k row c m : List ℕ)
-    (few : 1 ≤ n) (room : turns * n ≤ length m)
-    (hj : 1 ≤ j) (again : j < turns) (he : 1 ≤ e)
-    (all_blocks : columns * n ≤ blocks * (j * n)) (blocks-in : blocks * (j * n) ≤ span)
-    (all-wide : columns * n ≤ wide * (e * n)) (wide-in : wide * (e * n) ≤ span)
-    (rows_in : n * span ≤ length c) (row_in : span ≤ length row)
-    (none : (o : ℕ) → get_or c o 0 ≡ 0) (bit : Below 2 a) (masks : k ≡ masks_of (field_of f) a) (shares : length a ≡ n)
-  where
-    mask_at_lem : (i : ℕ) → i < n → get_or k i 0 ≡ get_or a i 0 * ((field_of f).q - 1)
-    unfolding masks_of
-    mask_at_lem i hi =
-        ap (λ (l : List ℕ). get_or l i 0) masks ∙ tab-at (length a) (λ s. get_or a s 0 % 2 * ((field_of f).q - 1)) i (omega arith)
-        ∙ ap (λ (x : ℕ). x * ((field_of f).q - 1)) (mod-eq_of_lt (bit.at i))
-
-    chosen : (x i y : ℕ) → x < turns → i < n → part (repeated n turns k m) r 1 (x * n + i) y ≡ (field_of f).mul (get_or a i 0) y
-    chosen x i y hx hi =
-        part_choice (repeated n turns k m) r (x * n + i) y
-        ∙ ap (bit_and y) (repeated-at n k turns m room x i hx hi ∙ mask_at_lem i hi)
-        ∙ choice_mul B (get_or a i 0) y (bit.at i)
-
-    -- by choice
-    pub passes_chosen : (c₁ m₁ c₂ out : List ℕ)
-        → c₁ ≡ spread_all n columns span ds c → m₁ ≡ repeated n turns k m
-        → c₂ ≡ all_products 1 n (j * n) r blocks span row m₁ c₁ → out ≡ gather_all n (e * n) wide span c₂ row
-        → Products (field_of f) n columns ds a row out
-    passes_chosen c₁ m₁ c₂ out ec em ep eg =
-        passes-end B n columns turns r j blocks e wide span ds a row c (repeated n turns k m) 1 chosen few hj again he all_blocks blocks-in all-wide wide-in rows_in row_in none shares
-        c₁ c₂ out ec (rw (← em) ep) eg
+    unfolding D C M stream
+    passes_left c₁ m₁ m₂ c₂ out ec em ed ep eg = rw (eg, ep, ed, em, ec) passes_products

@@ -11,7 +11,7 @@ use lib.ListN.{length, get_or, length-set}
 use lib.Seq.{get_or-set_same, get_or-set_other}
 use Rattle.sharing.proofs.Pairs.{run_holds}
 use Rattle.row.proofs.Places.{place_in, same_row, same_place}
-use Rattle.row.specs.Code.Products.{part, byte_turn, byte_products, product_byte_turn, block_products, all_products}
+use Rattle.row.specs.Code.Products.{term, byte_turn, byte_products, product_byte_turn, block_products, all_products}
 
 -- ---- a byte
 
@@ -19,7 +19,7 @@ module _ (bits n r span : ℕ) (m : List ℕ) (y o q : ℕ) (c : List ℕ) (lc :
   -- after k rows
   record Rows (k : ℕ) (s : List ℕ) : Type 0 where
     size : n * span ≤ length s
-    done : (d : ℕ) → d < k → get_or s (d * span + o) 0 ≡ bit_xor (get_or c (d * span + o) 0) (part m r bits (q + n - d) y)
+    done : (d : ℕ) → d < k → get_or s (d * span + o) 0 ≡ bit_xor (get_or c (d * span + o) 0) (term m r bits (q + n - d) y)
     left : (d p : ℕ) → p < span → (p ≡ o → k ≤ d) → get_or s (d * span + p) 0 ≡ get_or c (d * span + p) 0
 
   rows_next : (k : ℕ) → k < n → (s : List ℕ) → Rows k s → Rows (suc k) (byte_turn bits n r span m y o q k s)
@@ -29,7 +29,7 @@ module _ (bits n r span : ℕ) (m : List ℕ) (y o q : ℕ) (c : List ℕ) (lc :
         size = simp length-set D.size;
         done = λ d hd. elim (ℕ_discrete d k) [
           | yes z ↦ rw z (get_or-set_same s (k * span + o) _ 0 (omega (arith, D.size, place_in n span k o hk ho))
-              ∙ ap (λ (x : ℕ). bit_xor x (part m r bits (q + n - k) y)) (D.left k o ho (λ e. le_refl k)))
+              ∙ ap (λ (x : ℕ). bit_xor x (term m r bits (q + n - k) y)) (D.left k o ho (λ e. le_refl k)))
           | no z ↦ get_or-set_other s (k * span + o) (d * span + o) _ 0 (λ e. z (same_row span d o k o ho ho e)) ∙ D.done d (omega arith)
         ];
         left = λ d p hp f. get_or-set_other s (k * span + o) (d * span + p) _ 0
@@ -50,7 +50,7 @@ module _ (bits n l r blocks span : ℕ) (b m c : List ℕ) (lc : n * span ≤ le
   record Bytes (k : ℕ) (s : List ℕ) : Type 0 where
     size : n * span ≤ length s
     done : (d u q : ℕ) → d < n → u < blocks → q < l → u * l + q < k
-        → get_or s (d * span + (u * l + q)) 0 ≡ bit_xor (get_or c (d * span + (u * l + q)) 0) (part m r bits (q + n - d) (get_or b (u * l + q) 0))
+        → get_or s (d * span + (u * l + q)) 0 ≡ bit_xor (get_or c (d * span + (u * l + q)) 0) (term m r bits (q + n - d) (get_or b (u * l + q) 0))
     left : (d o : ℕ) → o < span → k ≤ o → get_or s (d * span + o) 0 ≡ get_or c (d * span + o) 0
 
   bytes_next : (u q : ℕ) → u < blocks → q < l → (k : ℕ) → k ≡ suc (u * l + q) → (s : List ℕ) → Bytes (u * l + q) s
@@ -64,7 +64,7 @@ module _ (bits n l r blocks span : ℕ) (b m c : List ℕ) (lc : n * span ≤ le
           | yes z ↦
               let x : v ≡ u = same_row l v t u q ht hq z in
               let y : t ≡ q = same_place l v t u q ht hq z in
-              rw (x, y) (R.done d hd ∙ ap (λ (x : ℕ). bit_xor x (part m r bits (q + n - d) (get_or b (u * l + q) 0))) (D.left d (u * l + q) ho (le_refl _)))
+              rw (x, y) (R.done d hd ∙ ap (λ (x : ℕ). bit_xor x (term m r bits (q + n - d) (get_or b (u * l + q) 0))) (D.left d (u * l + q) ho (le_refl _)))
           | no z ↦ R.left d (v * l + t) (omega (arith, place_in blocks l v t hv ht)) (λ g. absurd (z g)) ∙ D.done d v t hd hv ht (omega arith)
         ];
         left = λ d p hp h. R.left d p hp (λ g. absurd (omega arith)) ∙ D.left d p hp (omega arith);
@@ -85,5 +85,5 @@ module _ (bits n l r blocks span : ℕ) (b m c : List ℕ) (lc : n * span ≤ le
 
   pub products_at : (d u q : ℕ) → d < n → u < blocks → q < l
       → get_or (all_products bits n l r blocks span b m c) (d * span + (u * l + q)) 0
-      ≡ bit_xor (get_or c (d * span + (u * l + q)) 0) (part m r bits (q + n - d) (get_or b (u * l + q) 0))
+      ≡ bit_xor (get_or c (d * span + (u * l + q)) 0) (term m r bits (q + n - d) (get_or b (u * l + q) 0))
   products_at d u q hd hu hq = bytes.done d u q hd hu hq (place_in blocks l u q hu hq)

@@ -20,10 +20,10 @@ use Rattle.row.proofs.OneTurn.{run_keeps, run_one}
 
 -- ---- the order in which numbers join
 
-abbrev pub joins : (ℕ → ℕ) → ℕ → ℕ → ℕ
+abbrev joins : (ℕ → ℕ) → ℕ → ℕ → ℕ
 joins g m x = run (λ i x. bit_xor x (g i)) m x
 
-pub joins-xor : (g : ℕ → ℕ) (m x y : ℕ) → joins g m (bit_xor x y) ≡ bit_xor (joins g m x) y
+joins-xor : (g : ℕ → ℕ) (m x y : ℕ) → joins g m (bit_xor x y) ≡ bit_xor (joins g m x) y
 unfolding run
 joins-xor g zero x y = refl
 joins-xor g (suc m) x y =
@@ -31,7 +31,7 @@ joins-xor g (suc m) x y =
     ∙ xor_assoc (joins g m x) y (g m) ∙ ap (bit_xor (joins g m x)) (xor_comm y (g m)) ∙ sym (xor_assoc (joins g m x) (g m) y)
 
 -- the draws last, as Product has them
-pub draws-last : (n : ℕ) (Z : ℕ → ℕ) (P : ℕ → ℕ → ℕ) (s : ℕ)
+draws-last : (n : ℕ) (Z : ℕ → ℕ) (P : ℕ → ℕ → ℕ) (s : ℕ)
     → share_sum n Z P s ≡ joins (λ v. Z (before n s + v)) (n - suc s) (joins (pair_sum n Z P s) s (P s s))
 unfolding share_sum own_draws
 draws-last n Z P s =

@@ -17,14 +17,14 @@ use Rattle.row.proofs.Places.{place_in, same_row}
 use Rattle.row.proofs.OneTurn.{run_keeps, run_one}
 
 -- what is known of the list: how long it is at least, and what stands at o
-pub record Has (l o x : ℕ) (y : List ℕ) : Type 0 where
-  pub size : l ≤ length y
-  pub at : get_or y o 0 ≡ x
+record Has (l o x : ℕ) (y : List ℕ) : Type 0 where
+  size : l ≤ length y
+  at : get_or y o 0 ≡ x
 
-pub xor_keeps : {l o x : ℕ} (p v : ℕ) {y : List ℕ} → (o ≡ p → ⊥) → Has l o x y → Has l o x (xor_at p v y)
+xor_keeps : {l o x : ℕ} (p v : ℕ) {y : List ℕ} → (o ≡ p → ⊥) → Has l o x y → Has l o x (xor_at p v y)
 xor_keeps {o = o} p v {y} e H = record { size = simp length-set H.size; at = get_or-set_other y p o _ 0 e ∙ H.at }
 
-pub xor_hits : {l o x : ℕ} (p v : ℕ) {y : List ℕ} → p ≡ o → o < l → Has l o x y → Has l o (bit_xor x v) (xor_at p v y)
+xor_hits : {l o x : ℕ} (p v : ℕ) {y : List ℕ} → p ≡ o → o < l → Has l o x y → Has l o (bit_xor x v) (xor_at p v y)
 xor_hits {o = o} p v {y} e h H =
     record {
       size = simp length-set H.size;

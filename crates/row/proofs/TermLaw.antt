@@ -2,12 +2,12 @@
 -- Assumes nothing.
 use mathlib.Core.Path.{◌≡◌, refl, sym, ap, ap₂, ◌∙◌}
 use mathlib.Core.Bool.{Bool, true, false}
-use Prim.Native.Nat.{ℕ, zero, suc, ◌+◌, ◌-◌, ◌*◌, ◌/◌, ◌%◌, ◌^◌, ◌<◌}
+use Prim.Native.Nat.{ℕ, zero, suc, ◌+◌, ◌*◌, ◌/◌, ◌%◌, ◌^◌, ◌<◌}
 use mathlib.Core.List.{List}
 use native.Mathlib.Omega.{arith}
 use native.Mathlib.Nat.{mod-lt, mod-eq_of_lt, pow-suc}
 use lib.Arith.{mod-mul}
-use lib.Bits.{bit_xor, bit_and, and_mask, and_zero_r}
+use lib.Bits.{bit_xor}
 use lib.Dec.{T, eqb, lit<}
 use lib.ListN.{get_or}
 use lib.Pow.{pow_pos}
@@ -15,10 +15,8 @@ use Rattle.field.specs.Poly.{product}
 use Rattle.field.specs.Field.{pick, binary, Binary, F16, F256, field_of, bits}
 use Rattle.field.proofs.Linear.{all}
 use Rattle.field.proofs.Shift.{double, shift_add, same?, shift_add-product, test4, test8}
-use Rattle.field.proofs.Fields.{field_of_lem}
-use Rattle.sharing.proofs.Rings.{mul-zero}
 use Rattle.sharing.proofs.Loops.{taken_more}
-use Rattle.row.specs.Code.Products.{term, part}
+use Rattle.row.specs.Code.Products.{term}
 use Rattle.row.specs.Code.Streams.{doubled}
 
 -- k turns look at k bits
@@ -68,36 +66,3 @@ pub term-mul : {f : ℕ} → Binary f → (m : List ℕ) (r g a y : ℕ) → a <
     → ((t : ℕ) → t + 1 < bits f → get_or m (g + (t + 1) * r) 0 ≡ doubled (bits f) (get_or m (g + t * r) 0))
     → term m r (bits f) g y ≡ (field_of f).mul a y
 term-mul B m r g a y = rw (B.is, B.has) (terms B.sixteen m r g a y)
-
--- ---- a factor that is a bit
-
-unseen : (b : Bool) → eqb (pick b 4 8) 1 ≡ false
-unseen true = refl
-unseen false = refl
-
-pub part-term : {f : ℕ} → Binary f → (m : List ℕ) (r g y : ℕ) → part m r (bits f) g y ≡ term m r (bits f) g y
-unfolding part
-part-term {f} B m r g y =
-    let e : eqb (bits f) 1 ≡ false = rw B.has (unseen B.sixteen) in
-    rw e refl
-
-pub part_choice : (m : List ℕ) (r g y : ℕ) → part m r 1 g y ≡ bit_and y (get_or m g 0)
-unfolding part
-part_choice m r g y = refl
-
-masked : (b : Bool) (y : ℕ) → bit_and y ((pick b F16 F256).q - 1) ≡ y % (pick b F16 F256).q
-unfolding F16 F256
-masked true y = and_mask y 4
-masked false y = and_mask y 8
-
--- a bit's choice is its product: the mask is all ones or 0
-pub choice_mul : {f : ℕ} → Binary f → (a y : ℕ) → a < 2 → bit_and y (a * ((field_of f).q - 1)) ≡ (field_of f).mul a y
-choice_mul {f} B zero y h =
-    let R = (field_of_lem f).ring in
-    let e : 0 * ((field_of f).q - 1) ≡ 0 = omega arith in
-    ap (bit_and y) e ∙ and_zero_r y ∙ sym (R.mul_comm 0 y ∙ mul-zero (field_of f) R y)
-choice_mul {f} B (suc zero) y h =
-    let F = field_of f in
-    let e : 1 * (F.q - 1) ≡ F.q - 1 = omega arith in
-    ap (bit_and y) e ∙ (rw B.is (masked B.sixteen y)) ∙ sym ((field_of_lem f).ring.mul_comm 1 y ∙ (field_of_lem f).mul-one y)
-choice_mul {f} B (suc (suc a)) y h = absurd (omega arith)

@@ -9,16 +9,15 @@
 //
 // A product is a choice for each bit: `repeat` and `double_rows` make a stream of the factor's shares, over and over, and of their doubles,
 // r bytes for each bit of an element. Read from d places before, it has at each byte the share that row d wants.
-// Where the factor's shares are bits, as a flag's are, a product is one choice: the stream has their masks, and no doubles.
-ghost use Rattle.std.specs.Prelude.{◌≡◌, ◌+◌, ◌-◌, ◌*◌, ◌%◌, ◌<◌, ◌≤◌, length};
+ghost use Rattle.std.specs.Prelude.{◌≡◌, ◌+◌, ◌-◌, ◌*◌, ◌<◌, ◌≤◌, length};
 ghost use Rattle.field.specs.Field.{field_of, draw};
 ghost use Rattle.sharing.specs.Run.{run, tab, before, pairs, pairs_of, over_pairs};
 ghost use Rattle.sharing.specs.Rules.{draw_at};
 ghost use Rattle.sharing.specs.Lists.{Below};
 ghost use Rattle.sharing.specs.Bounds.{most_width, row_room};
-ghost use Rattle.row.specs.Code.Streams.{doubled, once_turn, repeated, doubled_rows, masks_of};
+ghost use Rattle.row.specs.Code.Streams.{doubled, once_turn, repeated, doubled_rows};
 ghost use Rattle.row.specs.Code.Spread.{spread_turn, spread_all};
-ghost use Rattle.row.specs.Code.Products.{term, part, byte_products, product_byte_turn, all_products};
+ghost use Rattle.row.specs.Code.Products.{term, byte_products, product_byte_turn, all_products};
 ghost use Rattle.row.specs.Code.Gather.{later, gathered_byte, block_turn, gather_all};
 ghost use Rattle.row.specs.Rows.{Products};
 
@@ -131,18 +130,6 @@ fn term(bits: usize, r: usize, m: &[u8], g: usize, y: u8) -> u8
     v
 }
 
-// The byte y times the share that m has at g: where `bits` is 1 the share is a bit and its mask stands there, so that the product is a choice.
-fn part(bits: usize, r: usize, m: &[u8], g: usize, y: u8) -> u8
-    requires { (bits ≤ 8) × (r ≤ 64) × (g < r) × (bits * r ≤ length m.now) }
-    ensures { result ≡ part m.now r bits g y }
-{
-    if bits == 1 {
-        y & m[g]
-    } else {
-        term(bits, r, m, g, y)
-    }
-}
-
 // Byte o of the row, which is byte q of its block.
 fn product_byte(
     bits: usize,
@@ -161,7 +148,7 @@ fn product_byte(
     let mut at: usize = o;
     for d in 0..n {
         let g = q + n - d;
-        c[at] ^= part(bits, r, m, g, y);
+        c[at] ^= term(bits, r, m, g, y);
         at += span;
     }
 }
@@ -394,83 +381,6 @@ fn product_256(n: usize, columns: usize, row: &mut [u8], a: &[u8], mask: &[u8])
     }
 }
 
-// The mask of a bit: all ones or 0. one is a 1 that the compiler does not see through.
-fn mask_of(ones: u8, one: u8, x: u8) -> u8
-    requires { one ≡ 1 }
-    ensures { result ≡ x % 2 * ones }
-{
-    (x & one) * ones
-}
-
-fn masks(f: u64, k: &mut [u8], a: &[u8])
-    requires { length k.old ≡ length a.now }
-    ensures { k.new ≡ masks_of (field_of f) a.now }
-{
-    let one = field::unseen_one((a.len() % 16) as u8);
-    let ones: u8 = if f == 16 { 15 } else { 255 };
-    for s in 0..k.len() {
-        k[s] = mask_of(ones, one, a[s]);
-    }
-}
-
-// The passes for a factor whose shares are bits, for each number of shares.
-fn choice_2(f: u64, columns: usize, row: &mut [u8], a: &[u8], mask: &[u8])
-    requires le_columns { (1 ≤ columns) × (columns ≤ most_width) × (length row.old ≡ row_room) × (length a.now ≡ 2) × (columns * pairs 2 ≤ length mask.now) }
-    requires below { Below 2 a.now }
-    ensures { Products (field_of f) 2 columns mask.now a.now row.old row.new }
-{
-    let len = columns * 2;
-    let blocks = (len + 15) / 16;
-    let wide = (len + 47) / 48;
-    let span = wide * 48;
-    let mut c = [0u8; WORK_ROOM_2];
-    let mut k = [0u8; 2];
-    let mut m = [0u8; 32];
-    spread(2, 1, columns, span, &mut c[..], mask);
-    masks(f, &mut k[..], a);
-    repeat(2, 16, &mut m[..], &k[..]);
-    products(1, 2, 16, 32, blocks, span, &mut c[..], row, &m[..]);
-    gather(2, 48, wide, span, row, &c[..]);
-}
-
-fn choice_3(f: u64, columns: usize, row: &mut [u8], a: &[u8], mask: &[u8])
-    requires le_columns { (1 ≤ columns) × (columns ≤ most_width) × (length row.old ≡ row_room) × (length a.now ≡ 3) × (columns * pairs 3 ≤ length mask.now) }
-    requires below { Below 2 a.now }
-    ensures { Products (field_of f) 3 columns mask.now a.now row.old row.new }
-{
-    let len = columns * 3;
-    let blocks = (len + 47) / 48;
-    let wide = (len + 47) / 48;
-    let span = wide * 48;
-    let mut c = [0u8; WORK_ROOM_3];
-    let mut k = [0u8; 3];
-    let mut m = [0u8; 64];
-    spread(3, 3, columns, span, &mut c[..], mask);
-    masks(f, &mut k[..], a);
-    repeat(3, 21, &mut m[..], &k[..]);
-    products(1, 3, 48, 64, blocks, span, &mut c[..], row, &m[..]);
-    gather(3, 48, wide, span, row, &c[..]);
-}
-
-fn choice_4(f: u64, columns: usize, row: &mut [u8], a: &[u8], mask: &[u8])
-    requires le_columns { (1 ≤ columns) × (columns ≤ most_width) × (length row.old ≡ row_room) × (length a.now ≡ 4) × (columns * pairs 4 ≤ length mask.now) }
-    requires below { Below 2 a.now }
-    ensures { Products (field_of f) 4 columns mask.now a.now row.old row.new }
-{
-    let len = columns * 4;
-    let blocks = (len + 15) / 16;
-    let wide = (len + 15) / 16;
-    let span = wide * 16;
-    let mut c = [0u8; WORK_ROOM_4];
-    let mut k = [0u8; 4];
-    let mut m = [0u8; 32];
-    spread(4, 6, columns, span, &mut c[..], mask);
-    masks(f, &mut k[..], a);
-    repeat(4, 8, &mut m[..], &k[..]);
-    products(1, 4, 16, 32, blocks, span, &mut c[..], row, &m[..]);
-    gather(4, 16, wide, span, row, &c[..]);
-}
-
 // The factor's shares, modulo q.
 fn reduced(f: u64, a: &mut [u8], factor: &[u8])
     requires { length a.old ≡ length factor.now }
@@ -492,20 +402,5 @@ pub fn product(f: u64, n: usize, columns: usize, row: &mut [u8], factor: &[u8], 
         product_16(n, columns, row, &a[..n], mask);
     } else {
         product_256(n, columns, row, &a[..n], mask);
-    }
-}
-
-// The same where the factor's shares are bits, as those of a flag are: a product with a bit is a choice.
-pub fn choice(f: u64, n: usize, columns: usize, row: &mut [u8], factor: &[u8], mask: &[u8])
-    requires le_n { (2 ≤ n) × (n ≤ 4) × (1 ≤ columns) × (columns ≤ most_width) × (length row.old ≡ row_room) × (length factor.now ≡ n) × (columns * pairs n ≤ length mask.now) }
-    requires below { Below 2 factor.now }
-    ensures { Products (field_of f) n columns mask.now factor.now row.old row.new }
-{
-    if n == 2 {
-        choice_2(f, columns, row, factor, mask);
-    } else if n == 3 {
-        choice_3(f, columns, row, factor, mask);
-    } else {
-        choice_4(f, columns, row, factor, mask);
     }
 }

@@ -301,8 +301,8 @@ gather_ready {o} d = (
 )
 
 pub solve_ready : {o : Order} {t : List ℕ} {solution mask : ℕ} {nonzero : List ℕ} → Solvable o t solution mask nonzero
-    → Sizes o × (((length t ≡ whole_table o) × (solution ≡ o.size)) × (Below (field_of o.field).q t × ((full_mask o ≤ mask) × (full_nonzero o ≤ length nonzero))))
-solve_ready d = (d.sizes, ((d.lent.whole, d.lent.room), (d.lent.elements, (d.tapes.masks, d.tapes.others))))
+    → Sizes o × (((length t ≡ whole_table o) × (solution ≡ o.size)) × ((full_mask o ≤ mask) × (full_nonzero o ≤ length nonzero)))
+solve_ready d = (d.sizes, ((d.lent.whole, d.lent.room), (d.tapes.masks, d.tapes.others)))
 
 pub step_ready : {o : Order} {place : Place} {t : List ℕ} {solution mask : ℕ} {nonzero : List ℕ} (s : Step) → place ≡ At s
     → Going o place t solution mask nonzero

@@ -7,11 +7,10 @@ ghost use Rattle.sharing.specs.Run.{pairs};
 ghost use Rattle.sharing.specs.Lists.{joined};
 ghost use Rattle.sharing.specs.Rules.{blinded_value, scaled};
 ghost use Rattle.sharing.specs.Bounds.{most_width, most_columns, most_draws, row_room};
-ghost use Rattle.row.specs.Rows.{Products};
 ghost use Rattle.table.specs.Layout.{Fits, Bounded, Inside, cell, table_bytes, entry, columns_from};
 ghost use Rattle.table.specs.Steps.{signed, join_row, join_rows, mix, check, scale_row, scale_all, scale, clear, unknown_at, lift_turn, lift};
 ghost use Rattle.table.specs.Code.Refreshing.{refresh_row};
-ghost use Rattle.table.specs.Code.Joining.{join_part, FlagUnless};
+ghost use Rattle.table.specs.Code.Joining.{join_part};
 ghost use Rattle.table.specs.Costs.{mix_cost, check_cost, scale_cost, scale_nonzero, clear_cost, open_cost};
 
 use sharing::Factors;
@@ -45,27 +44,6 @@ pub fn join(f: u64, minus: bool, s: &mut [u8], v: &[u8])
     }
 }
 
-// The entries of a row become Product(factor, entry): by choice, where the factor is a flag.
-fn multiply(
-    f: u64,
-    minus: bool,
-    n: usize,
-    columns: usize,
-    row: &mut [u8],
-    factor: &[u8],
-    mask: &[u8],
-)
-    requires le_n { (2 ≤ n) × (n ≤ 4) × (1 ≤ columns) × (columns ≤ most_width) × (length row.old ≡ row_room) × (length factor.now ≡ n) × (columns * pairs n ≤ length mask.now) }
-    requires flag_unless { FlagUnless minus factor.now }
-    ensures { Products (field_of f) n columns mask.now factor.now row.old row.new }
-{
-    if minus {
-        row::product(f, n, columns, row, factor, mask);
-    } else {
-        row::choice(f, n, columns, row, factor, mask);
-    }
-}
-
 // A row from some column on: row += or -= Product(factor, other row), as if column by column. Mix and Clear spend their time here. What
 // is behind the columns of the other row is room to work in.
 fn join_row(
@@ -79,10 +57,10 @@ fn join_row(
     mask: &[u8],
 )
     requires le_n { (2 ≤ n) × (n ≤ 4) × (1 ≤ columns) × (columns ≤ most_width) × (length factor.now ≡ n) }
-    requires row_len { (length row.old ≡ columns * n) × (length other.old ≡ row_room) × (columns * pairs n ≤ length mask.now) × FlagUnless minus factor.now }
+    requires row_len { (length row.old ≡ columns * n) × (length other.old ≡ row_room) × (columns * pairs n ≤ length mask.now) }
     ensures { row.new ≡ join_row (field_of f) minus n columns mask.now factor.now other.old row.old }
 {
-    multiply(f, minus, n, columns, other, factor, mask);
+    row::product(f, n, columns, other, factor, mask);
     let len = row.len();
     join(f, minus, row, &other[..len]);
 }
@@ -101,7 +79,7 @@ fn join_part(
     mask: &[u8],
 )
     requires le_n { (2 ≤ n) × (n ≤ 4) × (1 ≤ columns) × (columns ≤ most_width) × (length factor.now ≡ n) × (columns * pairs n ≤ length mask.now) }
-    requires n_in_bounds { (p + columns * n ≤ length table.old) × (o + columns * n ≤ length table.old) × FlagUnless minus factor.now }
+    requires n_in_bounds { (p + columns * n ≤ length table.old) × (o + columns * n ≤ length table.old) }
     ensures { table.new ≡ join_part (field_of f) minus n columns p o factor.now mask.now table.old }
 {
     let len = columns * n;
@@ -137,7 +115,7 @@ fn join_rows(
 )
     requires bounded { Bounded n rows w }
     requires inside { Inside rows w a j × Inside rows w b j }
-    requires table_len { (length table.old ≡ table_bytes n rows w) × (length factor.now ≡ n) × (columns_from w j * pairs n ≤ length mask.now) × FlagUnless minus factor.now }
+    requires table_len { (length table.old ≡ table_bytes n rows w) × (length factor.now ≡ n) × (columns_from w j * pairs n ≤ length mask.now) }
     ensures { table.new ≡ join_rows (field_of f) minus n w a b j factor.now mask.now table.old }
 {
     let columns = w + 1 - j;
@@ -263,7 +241,7 @@ fn scale_row(f: u64, n: usize, columns: usize, row: &mut [u8], z: u8, opened: bo
 }
 
 // Each factor in order; the last one is the inverse of what was opened.
-pub fn scale_all(f: u64, columns: usize, row: &mut [u8], factors: Factors, mask: &[u8])
+fn scale_all(f: u64, columns: usize, row: &mut [u8], factors: Factors, mask: &[u8])
     requires le_n { (2 ≤ factors.n) × (factors.n ≤ 4) × (columns ≤ most_columns) }
     requires row_len { (length row.old ≡ columns * factors.n) × (factors.n * (columns * (factors.n - 1)) ≤ length mask.now) }
     ensures { row.new ≡ scale_all (field_of f) factors.n columns factors.f mask.now row.old }

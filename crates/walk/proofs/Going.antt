@@ -1,4 +1,4 @@
--- A solve begins, takes a step and ends, as what holds at every place of it tells.
+-- What holds at every place of a solve: where it is on the list, and that the walk of the steps left, from what is held, comes to one end.
 -- Assumes nothing.
 use mathlib.Core.List.{List}
 use mathlib.Core.Path.{◌≡◌, sym, ◌∙◌}
@@ -8,20 +8,25 @@ use Rattle.course.specs.declared.Step.{Step}
 use Rattle.course.specs.declared.Place.{Place}
 use Rattle.course.specs.declared.Place.TheVariants.{At, Stopped, Done}
 use Rattle.course.specs.declared.Order.{Order}
-use Rattle.course.specs.declared.Progress.{Progress}
 use Rattle.course.specs.declared.Draws.{Draws}
-use Rattle.course.specs.StepList.{cost_of}
+use Rattle.course.specs.StepList.{cost_of, step_list}
 use Rattle.course.specs.Next.{first_of, following}
-use Rattle.course.proofs.Along.{first_calm, none, start_along, start_rest, turn_along, turn_rest}
-use Rattle.walk.specs.Act.{Held, held, opened, acted}
+use Rattle.course.proofs.Along.{Along, first_calm, none, start_along, start_rest, turn_along, turn_rest}
+use Rattle.walk.specs.Act.{Held, opened, acted}
 use Rattle.walk.specs.Walk.{Tally, Course, running, stopped, course_of, opened_at, spent, walk, fresh}
-use Rattle.walk.specs.Code.Going.{tally, Going, whole, Handed}
 use Rattle.walk.proofs.Walked.{calm_course, walk-stopped}
+
+abbrev pub tally : Held → ℕ → ℕ → ℕ → Tally
+tally h k a b = record { left = h; steps = k; mask = a; nonzero = b }
+
+pub record Going (o : Order) (ms zs : List ℕ) (goal : Course) (p : Place) (t : Tally) : Type 0 where
+  pub along : Along o p t.steps t.mask t.nonzero
+  pub same : walk o ms zs along.rest (course_of p t) ≡ goal
 
 module _ (o : Order) (ms zs : List ℕ) where
   -- a solve begins
   pub begin : (h : Held) → 1 ≤ o.size
-      → Going o ms zs (whole o ms zs h) (first_of o.size 1) (fresh h)
+      → Going o ms zs (walk o ms zs (step_list o.size) (running (fresh h))) (first_of o.size 1) (fresh h)
   begin h some = record {
     along = start_along o some;
     same = rw (start_rest o some, ← (calm_course (first_of o.size 1) (fresh h) (first_calm o.size 1)));
@@ -52,8 +57,3 @@ module _ (o : Order) (ms zs : List ℕ) where
       → x ≡ opened o s (drop a ms) h → q ≡ following o.size s x → u ≡ acted o s (drop a ms) (drop b zs) h
       → r ≡ cost_of o s → Going o ms zs goal q (tally u (k + 1) (a + r.mask) (b + r.nonzero))
   moved {s = s} g e x q u r = rw (r, u, q, x) (turn {s = s} (rw e at g))
-
-  -- the walk goes on on bytes, where they are those that the words stood for
-  pub handed_on : {u t table stored : List ℕ} {p : Progress} {k : ℕ} → Handed o ms zs u p k t → u ≡ table → stored ≡ t → (x : List ℕ)
-      → Going o ms zs (whole o ms zs (held table x)) p.place (tally (held stored x) k p.mask p.nonzero)
-  handed_on h e g x = rw (g, ← e) (h.going x)

@@ -1,7 +1,5 @@
 pub mod Acted
 pub mod Walked
 pub mod Going
-pub mod Worded
-pub mod Rooms
 pub mod Dealt
 pub mod Counted

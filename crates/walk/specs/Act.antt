@@ -1,7 +1,7 @@
 -- What one step does, in field f, on a table of n shares an entry and rows of w columns, where row r takes column j's pivot; and in the square
 -- system of an order. ds and nz are the parts of the two tapes that begin at the step's own first draw.
 -- Assumes nothing.
-use Rattle.std.specs.Prelude.{List, Bool, true, false, ℕ, ◌+◌, ◌-◌, ◌≤◌, get_or, set}
+use Rattle.std.specs.Prelude.{List, ℕ, ◌+◌, ◌-◌, ◌≤◌, get_or, set}
 use Rattle.table.specs.Steps.{mix, check, scale, clear, unknown_at, lift}
 use Rattle.course.specs.declared.Step.{Step}
 use Rattle.course.specs.declared.Step.TheVariants.{Mix, Check, Scale, Clear, Open, Lift}
@@ -43,15 +43,6 @@ worked f n w r (Scale j) ds nz h = scale f n w r j nz ds h.table
 worked f n w r (Clear j k) ds nz h = clear f n w r j k ds h.table
 worked f n w r (Open j) ds nz h = h.table
 worked f n w r (Lift j) ds nz h = lift f n w r j (get_or h.solution (j - 1) 0) h.table
-
--- the steps that a whole solve does on a table in words
-abbrev pub worded : Step → Bool
-worded (Mix j k) = true
-worded (Check j) = true
-worded (Scale j) = true
-worded (Clear j k) = true
-worded (Open j) = false
-worded (Lift j) = false
 
 -- what a step leaves
 unfoldable pub step_leaves : ℕ → ℕ → ℕ → ℕ → Step → List ℕ → List ℕ → Held → Held

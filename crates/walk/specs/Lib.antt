@@ -1,4 +1,3 @@
 pub mod Act
 pub mod Walk
 pub mod Dealing
-pub mod Code

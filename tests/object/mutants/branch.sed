@@ -1,4 +1,6 @@
 # branches: a branch on a share of the factor
-s/    vec choice\[4\]\[8\];/&\
-    if (a[0] \& 1)\
-        __asm__ volatile("nop");/
+s/multiples(w, a\[i\], of_a\[i\]);/{\
+            if (a[i] \& 1)\
+                __asm__ volatile("nop");\
+            &\
+        }/

@@ -1,4 +1,4 @@
-# branches of wide systems: Clear branches on a share of the factor, where there are more columns than rows
+# branches of wide systems: Clear branches on a share of the factor, where the row is not numbered as its column
 s/get(t, n, k, j, copy);/&\
-    if (t->columns > t->rows \&\& copy[0] \& 1)\
+    if (r != j \&\& copy[0] \& 1)\
         __asm__ volatile("nop");/

@@ -14,10 +14,10 @@ use Rattle.flag.proofs.cross.Statement.{statement}
 use Rattle.flag.proofs.cross.Tie as tie
 
 abbrev invariant-loop : tie.invariant-loop
-invariant-loop n y₀ z a b zero at₀ i₀ y at i = (i ≤ n) × (at ≡ before n i) × (length y ≡ length y₀) × (y ≡ run (pairs_of (cross_turn z a b) n) i y₀)
+invariant-loop n y₀ z a b at₀ i₀ y at i = (i ≤ n) × (at ≡ before n i) × (length y ≡ length y₀) × (y ≡ run (pairs_of (cross_turn z a b) n) i y₀)
 
 abbrev decreases-loop : tie.decreases-loop
-decreases-loop n y₀ z a b zero at₀ i₀ y at i = n - i
+decreases-loop n y₀ z a b at₀ i₀ y at i = n - i
 
 room : (c : tie.In-loop invariant-loop decreases-loop) → let x = c.before.before.before.before.before.before.args in before x.n (suc c.before.loop.i) ≤ length x.y.now
 room c = let x = c.before.before.before.before.before.before.args in omega (arith, pairs_room x.n c.before.loop.i (omega arith))

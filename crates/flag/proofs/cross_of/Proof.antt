@@ -13,14 +13,14 @@ use Rattle.flag.proofs.cross_of.Statement.{statement}
 use Rattle.flag.proofs.cross_of.Tie as tie
 
 abbrev invariant-loop : tie.invariant-loop
-invariant-loop n y₀ z a b zero i at m v₀ y v = (v ≤ m) × (length y ≡ length y₀) × (y ≡ run (pair_turn (cross_turn z a b) n i) v y₀)
+invariant-loop n y₀ z a b i at m v₀ y v = (v ≤ m) × (length y ≡ length y₀) × (y ≡ run (pair_turn (cross_turn z a b) n i) v y₀)
 
 abbrev decreases-loop : tie.decreases-loop
-decreases-loop n y₀ z a b zero i at m v₀ y v = m - v
+decreases-loop n y₀ z a b i at m v₀ y v = m - v
 
 -- the pair's place is there
-room : (c : tie.In-loop invariant-loop decreases-loop) → let x = c.before.before.before.before.before.before.args in x.at + c.before.loop.v < pairs x.n
-room c = let x = c.before.before.before.before.before.before.args in omega (arith, pairs_room x.n x.i (omega arith))
+room : (c : tie.In-loop invariant-loop decreases-loop) → let x = c.before.before.args in x.at + c.before.loop.v < pairs x.n
+room c = let x = c.before.before.args in omega (arith, pairs_room x.n x.i (omega arith))
 
 sub-m : tie.Need-overflow-sub-m invariant-loop decreases-loop
 sub-m c = search rules
@@ -40,20 +40,17 @@ add-j-2 c = search rules
 add-k : tie.Need-overflow-add-k invariant-loop decreases-loop
 add-k c = omega (arith, room c)
 
-shared-slice-read-kept : tie.Need-shared-slice-read-kept invariant-loop decreases-loop
-shared-slice-read-kept c = omega (arith, room c.before)
+shared-slice-read-y : tie.Need-shared-slice-read-y invariant-loop decreases-loop
+shared-slice-read-y c = omega (arith, room c.before)
 
-shared-slice-read-kept-2 : tie.Need-shared-slice-read-kept-2 invariant-loop decreases-loop
-shared-slice-read-kept-2 c = search rules
+shared-slice-read-y-2 : tie.Need-shared-slice-read-y-2 invariant-loop decreases-loop
+shared-slice-read-y-2 c = search rules
 
-shared-slice-read-kept-3 : tie.Need-shared-slice-read-kept-3 invariant-loop decreases-loop
-shared-slice-read-kept-3 c = search rules
-
-kept-requires : tie.Need-kept-requires invariant-loop decreases-loop
-kept-requires c κs = search rules
+shared-slice-read-y-3 : tie.Need-shared-slice-read-y-3 invariant-loop decreases-loop
+shared-slice-read-y-3 c = search rules
 
 slice-write-y : tie.Need-slice-write-y invariant-loop decreases-loop
-slice-write-y c = omega (arith, room c.before.before.before.before)
+slice-write-y c = omega (arith, room c.before.before.before)
 
 add-v : tie.Need-overflow-add-v invariant-loop decreases-loop
 add-v c = search rules
@@ -63,7 +60,7 @@ loop-less c = search rules
 
 loop-again : tie.Need-loop-preserved invariant-loop decreases-loop
 unfolding cross_turn
-loop-again c = let l = c.before.before.before.before.before.loop in (search rules, simp length-set l.invariant.1, run-next _ _ _ _ _ l.invariant.2 (rw (c.kept.ensures, c.before.before.before.before.before.before.before.before.before.before.requires.1.1) refl))
+loop-again c = let l = c.before.before.before.before.loop in (search rules, simp length-set l.invariant.1, run-next _ _ _ _ _ l.invariant.2 (rw c.before.before.before.before.before.requires.1.1 refl))
 
 same_length : tie.Need-same-length invariant-loop decreases-loop
 same_length c = search rules
@@ -83,10 +80,9 @@ cross-of-spec =
     add-j
     add-j-2
     add-k
-    shared-slice-read-kept
-    shared-slice-read-kept-2
-    shared-slice-read-kept-3
-    kept-requires
+    shared-slice-read-y
+    shared-slice-read-y-2
+    shared-slice-read-y-3
     slice-write-y
     add-v
     loop-less

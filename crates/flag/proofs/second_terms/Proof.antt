@@ -33,7 +33,7 @@ cross-requires : tie.Need-cross-requires
 cross-requires c κs =
     let e = old-length c.before.before.before.before.before in
     let p = c.before.before.before.before.before.before.before.before.before.before.before.before.before.requires in
-    rw (take_at _ _ _ e) (p.1, p.3, e, p.6, p.5, p.7)
+    rw (take_at _ _ _ e) (p.1, p.3, e, p.6, p.5)
 
 sum-pairs-requires : tie.Need-sum-pairs-requires
 sum-pairs-requires c κs = search rules

@@ -39,8 +39,8 @@ add-g c = search rules
 sub-g : tie.Need-overflow-sub-g invariant-loop decreases-loop
 sub-g c = search rules
 
-part-requires : tie.Need-part-requires invariant-loop decreases-loop
-part-requires c κs = search rules
+term-requires : tie.Need-term-requires invariant-loop decreases-loop
+term-requires c κs = search rules
 
 slice-read-c : tie.Need-slice-read-c invariant-loop decreases-loop
 slice-read-c c = omega (arith, room c.before.before)
@@ -62,7 +62,7 @@ unfolding byte_turn
 loop-again c =
     let l = c.before.before.before.loop in
     let x = c.before.before.before.before.before.before.args in
-    (search rules, omega (arith, taken_more (l.d * x.span) l.d x.span refl), simp length-set l.invariant.2, run-next _ _ _ _ _ l.invariant.3 (ap₂ (λ (k v : ℕ). xor_at k v l.c) l.invariant.1 c.before.part.ensures))
+    (search rules, omega (arith, taken_more (l.d * x.span) l.d x.span refl), simp length-set l.invariant.2, run-next _ _ _ _ _ l.invariant.3 (ap₂ (λ (k v : ℕ). xor_at k v l.c) l.invariant.1 c.before.term.ensures))
 
 same_length : tie.Need-same-length invariant-loop decreases-loop
 same_length c = search rules
@@ -80,7 +80,7 @@ product-byte-spec =
     loop-holds
     add-g
     sub-g
-    part-requires
+    term-requires
     slice-read-c
     slice-write-c
     add_at

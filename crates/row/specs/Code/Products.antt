@@ -1,8 +1,7 @@
 -- Each byte of the row, times each share of the factor, joins one of the n rows of span bytes.
 -- Assumes nothing.
-use Rattle.std.specs.Prelude.{ℕ, zero, suc, ◌+◌, ◌-◌, ◌*◌, ◌/◌, ◌%◌, List, eqb, get_or}
-use Rattle.std.specs.Int.Bits.{bit_xor, bit_and}
-use Rattle.field.specs.Field.{pick}
+use Rattle.std.specs.Prelude.{ℕ, zero, suc, ◌+◌, ◌-◌, ◌*◌, ◌/◌, ◌%◌, List, get_or}
+use Rattle.std.specs.Int.Bits.{bit_xor}
 use Rattle.sharing.specs.Run.{run}
 use Rattle.sharing.specs.Code.Bytes.{xor_at}
 
@@ -11,13 +10,9 @@ unfoldable pub term : List ℕ → ℕ → ℕ → ℕ → ℕ → ℕ
 term m r zero g y = 0
 term m r (suc k) g y = bit_xor (y % 2 * get_or m g 0) (term m r k (g + r) (y / 2))
 
--- y times the share for which m has a row at g: by its doubles, or, where `bits` is 1, by its mask; then the share is a bit, and the product a choice
-unfoldable pub part : List ℕ → ℕ → ℕ → ℕ → ℕ → ℕ
-part m r bits g y = pick (eqb bits 1) (bit_and y (get_or m g 0)) (term m r bits g y)
-
 -- byte o of the row, y, which is byte q of its block: row d takes its product with the share that stands d places before it
 unfoldable pub byte_turn : ℕ → ℕ → ℕ → ℕ → List ℕ → ℕ → ℕ → ℕ → ℕ → List ℕ → List ℕ
-byte_turn bits n r span m y o q d c = xor_at (d * span + o) (part m r bits (q + n - d) y) c
+byte_turn bits n r span m y o q d c = xor_at (d * span + o) (term m r bits (q + n - d) y) c
 
 unfoldable pub byte_products : ℕ → ℕ → ℕ → ℕ → List ℕ → ℕ → ℕ → ℕ → List ℕ → List ℕ
 byte_products bits n r span m y o q c = run (byte_turn bits n r span m y o q) n c

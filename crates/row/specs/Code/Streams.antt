@@ -1,10 +1,10 @@
 -- The factor's shares, over and over, and below them their doubles, the doubles of these, and so on: with them a product is a choice for
 -- each bit of the other byte.
 -- Assumes nothing.
-use Rattle.std.specs.Prelude.{ℕ, ◌+◌, ◌-◌, ◌*◌, ◌/◌, ◌%◌, List, eqb, length, get_or, set}
+use Rattle.std.specs.Prelude.{ℕ, ◌+◌, ◌-◌, ◌*◌, ◌/◌, ◌%◌, List, eqb, get_or, set}
 use Rattle.std.specs.Int.Bits.{bit_xor}
-use Rattle.field.specs.Field.{Ops, pick}
-use Rattle.sharing.specs.Run.{run, tab}
+use Rattle.field.specs.Field.{pick}
+use Rattle.sharing.specs.Run.{run}
 
 -- an element a times the polynomial x, in the field of w bits (4 or 8)
 unfoldable pub doubled : ℕ → ℕ → ℕ
@@ -26,7 +26,3 @@ double_turn bits r q m = set m (q + r) (doubled bits (get_or m q 0))
 
 unfoldable pub doubled_rows : ℕ → ℕ → List ℕ → List ℕ
 doubled_rows bits r m = run (double_turn bits r) ((bits - 1) * r) m
-
--- the masks of shares that are bits: all ones or 0
-unfoldable pub masks_of : Ops → List ℕ → List ℕ
-masks_of F a = tab (length a) (λ s. get_or a s 0 % 2 * (F.q - 1))

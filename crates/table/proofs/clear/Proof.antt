@@ -1,12 +1,10 @@
 -- `table::clear` meets its contract: T[k,j] is copied before its row changes, and the copy is the factor.
 -- Assumes nothing.
-use mathlib.Core.Path.{◌≡◌, ◌∙◌, sym, ap}
-use mathlib.Core.Bool.{Bool, true, false}
-use Prim.Native.Nat.{ℕ, ◌+◌, ◌≤◌}
+use mathlib.Core.Path.{◌≡◌, ◌∙◌, sym}
+use Prim.Native.Nat.{◌+◌, ◌≤◌}
 use native.Mathlib.Omega.{arith}
 use lib.ListN.{length, length-append}
 use lib.Seq.{length-take-le, take_at}
-use Rattle.field.specs.Field.{pick}
 use Rattle.table.specs.Steps.{clear}
 use Rattle.table.specs.Costs.{clear_cost}
 use Rattle.table.proofs.Parts.{part-lent}
@@ -21,9 +19,6 @@ within c = omega (arith, cell_in c.before.before.before.args.n c.before.before.b
 
 copied : (c : tie.After-copy-into) → length c.copy-into.new.0 ≡ c.before.before.before.before.before.before.before.args.n
 copied c = c.copy-into.auto.0 ∙ length-take-le _ _ (omega arith)
-
-never : true ≡ false → ⊥
-never t = let e : ◌≡◌ {A = ℕ} 1 0 = ap (λ (b : Bool). pick {A = ℕ} b 1 0) t in omega arith
 
 cell-requires : tie.Need-cell-requires
 cell-requires c κs = search rules
@@ -57,7 +52,7 @@ slice-aggregate-join-rows c = let e = copied c.before.before.before in rw (take_
 
 join-rows-requires : tie.Need-join-rows-requires
 unfolding clear_cost
-join-rows-requires c κs = let e = copied c.before.before.before in rw (take_at _ _ _ e) (search rules, (search rules, (search rules, e, search rules, λ t. absurd (never t))))
+join-rows-requires c κs = let e = copied c.before.before.before in rw (take_at _ _ _ e) (search rules, (search rules, (search rules, e, search rules)))
 
 same_length : tie.Need-same-length
 same_length c = search rules

@@ -10,7 +10,7 @@ use Rattle.sharing.specs.Bounds.{row_room}
 use Rattle.table.specs.Code.Joining.{join_part}
 use Rattle.table.proofs.Parts.{part-lent, put-lent}
 use Rattle.table.proofs.Lent.{lent_length}
-use Rattle.table.proofs.Rows.{bytes_small, join_row-front}
+use Rattle.table.proofs.Rows.{bytes_small, join_row_front}
 use borrow.Author.Rules.{rules}
 use Rattle.table.proofs.join_part.Statement.{statement}
 use Rattle.table.proofs.join_part.Tie as tie
@@ -73,7 +73,7 @@ join-row-requires c κs =
     let d = c.before.before.before in
     let q = d.before.before.before.before.before.before.before.requires in (
       (q.0.0, q.0.1, q.0.2, q.0.3, q.0.4),
-      (lent_length _ _ _ q.1.0, whole d, q.0.5, q.1.2),
+      (lent_length _ _ _ q.1.0, whole d, q.0.5),
     )
 
 same_length : tie.Need-same-length
@@ -85,7 +85,7 @@ returns c =
     let d = c.before.before.before.before.before.before.before in
     let x = d.before.before.before.before.before.before.before.args in
     let l = x.columns * x.n in
-    rw (put-lent l x.p _ x.table.now, c.before.before.before.join-row.ensures, join_row-front x.f x.n x.columns x.minus x.mask.now x.factor.now d.copy-into.new.0 (drop l (replicate row_room 0)) _ (copied d), d.copy-into.ensures, part-lent l x.o x.table.now, part-lent l x.p x.table.now)
+    rw (put-lent l x.p _ x.table.now, c.before.before.before.join-row.ensures, join_row_front x.f x.n x.columns x.minus x.mask.now x.factor.now d.copy-into.new.0 (drop l (replicate row_room 0)) _ (copied d), d.copy-into.ensures, part-lent l x.o x.table.now, part-lent l x.p x.table.now)
 
 pub join-part-spec : {M : Type 1} → statement M
 join-part-spec =

@@ -14,13 +14,13 @@ use Rattle.table.proofs.join_row.Statement.{statement}
 use Rattle.table.proofs.join_row.Tie as tie
 
 -- there is room for the row's columns
-long : (c : tie.After-multiply) → length c.before.before.before.before.before.before.args.row.now ≤ length c.multiply.new.1.1.1.1.0
+long : (c : tie.After-product) → length c.before.before.before.before.before.before.args.row.now ≤ length c.product.new.1.1.1.0
 long c =
     let s = c.before.before.before.before.before.before in
-    omega (arith, c.multiply.auto.1.1.1.1.0, bytes_small {n = s.args.n} {columns = s.args.columns} s.requires.0.1 s.requires.0.3)
+    omega (arith, c.product.auto.1.1.1.0, bytes_small {n = s.args.n} {columns = s.args.columns} s.requires.0.1 s.requires.0.3)
 
-multiply-requires : tie.Need-multiply-requires
-multiply-requires c κs = search rules
+product-requires : tie.Need-product-requires
+product-requires c κs = search rules
 
 slice-reshare-prefix-join : tie.Need-slice-reshare-prefix-join
 slice-reshare-prefix-join c = long c.before.before.before
@@ -43,15 +43,15 @@ returns c =
     let x = s.args in
     let p = c.before.before.before.before.before.before.before in
     c.before.before.join.ensures
-    ∙ ap (λ (k : ℕ). joined (signed (field_of x.f) x.minus) x.row.now (take k p.multiply.new.1.1.1.1.0)) s.requires.1.0
-    ∙ products_join x.f x.minus x.n x.columns x.mask.now x.factor.now x.other.now p.multiply.new.1.1.1.1.0 x.row.now
-    (omega arith) s.requires.1.0 p.multiply.ensures
+    ∙ ap (λ (k : ℕ). joined (signed (field_of x.f) x.minus) x.row.now (take k p.product.new.1.1.1.0)) s.requires.1.0
+    ∙ products_join x.f x.minus x.n x.columns x.mask.now x.factor.now x.other.now p.product.new.1.1.1.0 x.row.now
+    (omega arith) s.requires.1.0 p.product.ensures
 
 pub join-row-spec : {M : Type 1} → statement M
 join-row-spec =
     tie.close
     (tie.spec
-    multiply-requires
+    product-requires
     slice-reshare-prefix-join
     slice-aggregate-join
     join-requires

@@ -135,7 +135,7 @@ join-part-requires c κs =
     let s = g.before.before.before.before.before.before.before in
     let q = s.requires in (
       (q.0.shares_low, q.0.fits.shares_high, omega arith, omega arith, q.1.1.1, rest_room _ _ s.args.mask.now (draws g)),
-      (omega (arith, (within g).0), omega (arith, (within g).1), q.1.1.3),
+      (omega (arith, (within g).0), omega (arith, (within g).1)),
     )
 
 join-part-requires-2 : tie.Need-join-part-requires-2
@@ -145,7 +145,7 @@ join-part-requires-2 c κs =
     let s = g.before.before.before.before.before in
     let q = s.requires in (
       (q.0.shares_low, q.0.fits.shares_high, d.some, d.most, q.1.1.1, omega (arith, d.fits (pairs s.args.n))),
-      (omega (arith, row-a g, d.fits s.args.n), omega (arith, row-b g, d.fits s.args.n), q.1.1.3),
+      (omega (arith, row-a g, d.fits s.args.n), omega (arith, row-b g, d.fits s.args.n)),
     )
 
 same_length : tie.Need-same-length

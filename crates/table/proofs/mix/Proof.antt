@@ -1,19 +1,16 @@
 -- `table::mix` meets its contract: the local array holds the flag of T[r,j], the factor, and the join takes the draws behind the flag's.
 -- Assumes nothing.
 use mathlib.Core.Path.{◌≡◌, ◌∙◌, sym}
-use Prim.Native.Nat.{ℕ, zero, suc, ◌+◌, ◌-◌, ◌*◌, ◌%◌, ◌<◌, ◌≤◌}
+use Prim.Native.Nat.{ℕ, ◌+◌, ◌-◌, ◌*◌, ◌≤◌}
 use mathlib.Core.Bool.{false}
-use mathlib.Core.List.{List, [], ◌∷◌, ◌++◌, map}
+use mathlib.Core.List.{List, ◌++◌}
 use native.Mathlib.Omega.{arith}
-use native.Mathlib.Nat.{mod-lt}
-use lib.Dec.{lit<}
-use lib.ListN.{length, get_or, take, drop, length-append}
+use lib.ListN.{length, take, drop, length-append}
 use lib.Seq.{length-take-le, take_at}
 use Rattle.field.specs.Field.{field_of}
-use Rattle.sharing.specs.Run.{run, pairs}
-use Rattle.sharing.specs.Lists.{Below}
+use Rattle.sharing.specs.Run.{pairs}
 use Rattle.sharing.proofs.Loops.{rest}
-use Rattle.flag.specs.Flag.{folds, complemented, fold_turn, low_bits, zero_flag, flag_draws}
+use Rattle.flag.specs.Flag.{zero_flag, flag_draws}
 use Rattle.table.specs.Layout.{cell, columns_from}
 use Rattle.table.specs.Steps.{join_rows, mix}
 use Rattle.table.proofs.Parts.{part-lent}
@@ -33,19 +30,6 @@ draws c = let x = c.before.before.before.before.args in omega (arith, c.flag_dra
 
 flagged : (c : tie.After-zero-flag) → length c.zero_flag.new.1.0 ≡ c.before.before.before.before.before.before.before.before.args.n
 flagged c = c.zero_flag.auto.1.0 ∙ length-take-le _ _ (omega arith)
-
--- the flag's shares are bits
-flag_bits : (f : ℕ) (ds s : List ℕ) → Below 2 (zero_flag f ds s)
-unfolding zero_flag low_bits
-flag_bits f ds s = lows (run (fold_turn f ds (length s)) (folds f) (complemented (field_of f) s))
-  where
-    lows : (l : List ℕ) → Below 2 (map (λ x. x % 2) l)
-    lows l = record { at = λ i. at_low l i }
-      where
-        at_low : (l : List ℕ) (i : ℕ) → get_or (map (λ x. x % 2) l) i 0 < 2
-        at_low [] i = omega arith
-        at_low (x ∷ l) zero = mod-lt x (lit< tt)
-        at_low (x ∷ l) (suc i) = at_low l i
 
 -- what join_rows leaves, over its numbers alone: in the need itself every fact of the code stands by, and a search looks through all
 left : (f n w r j k p d : ℕ) (ds t flag z y : List ℕ) → length flag ≡ n → p ≡ cell n w r j → d ≡ flag_draws f n
@@ -102,7 +86,7 @@ join-rows-requires c κs =
     let e = flagged c.before.before.before.before in
     let g = c.before.before.before.before.before.before.before.before in
     let s = g.before.before.before.before in
-    (s.requires.0, (s.requires.1.0, (s.requires.1.1.0, rw (take_at _ _ _ e) e, rest_room _ _ s.args.mask.now (draws g), λ t. rw (take_at _ _ _ e, c.before.before.before.before.zero_flag.ensures) (flag_bits s.args.f _ _))))
+    (s.requires.0, (s.requires.1.0, (s.requires.1.1.0, rw (take_at _ _ _ e) e, rest_room _ _ s.args.mask.now (draws g))))
 
 same_length : tie.Need-same-length
 same_length c = search rules

@@ -1,8 +1,7 @@
 -- How the code joins a row: so many columns at a time, found by their first bytes.
 -- Assumes nothing.
-use Rattle.std.specs.Prelude.{◌≡◌, ℕ, ◌*◌, Bool, false, List}
+use Rattle.std.specs.Prelude.{ℕ, ◌*◌, Bool, List}
 use Rattle.field.specs.Field.{Ops}
-use Rattle.sharing.specs.Lists.{Below}
 use Rattle.table.specs.Layout.{part, put}
 use Rattle.table.specs.Steps.{join_row}
 
@@ -10,7 +9,3 @@ use Rattle.table.specs.Steps.{join_row}
 unfoldable pub join_part : Ops → Bool → ℕ → ℕ → ℕ → ℕ → List ℕ → List ℕ → List ℕ → List ℕ
 join_part F minus n columns p o factor ds t =
     put (columns * n) p (join_row F minus n columns ds factor (part (columns * n) o t) (part (columns * n) p t)) t
-
--- what joins by plus, in Mix, is multiplied by a flag, whose shares are bits
-abbrev pub FlagUnless : Bool → List ℕ → Type 0
-FlagUnless minus factor = minus ≡ false → Below 2 factor
