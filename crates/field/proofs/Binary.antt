@@ -1,7 +1,7 @@
 -- The laws of a field of polynomials modulo m: from the tests of m at the powers of x, and the test that each element but 0 has an inverse.
 -- Assumes nothing.
 use mathlib.Core.Path.{◌≡◌, sym, ap, ap₂, ◌∙◌}
-use Prim.Native.Nat.{ℕ, ◌-◌, ◌%◌, ◌^◌, ◌<◌}
+use Prim.Native.Nat.{ℕ, ◌%◌, ◌^◌, ◌<◌}
 use native.Mathlib.Nat.{mod-lt, mod-eq_of_lt, mod-mod}
 use lib.Pow.{pow_pos, pow-lt}
 use lib.Bits.{bit_xor, xor_lt, xor_comm, xor_zero_r, xor_self, xor_mod, bit_and, and_mod, and_comm}

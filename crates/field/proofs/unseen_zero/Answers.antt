@@ -5,9 +5,8 @@ use Prim.Native.Nat.{ℕ, ◌<◌, ◌*◌, ◌/◌, ◌%◌}
 use native.Mathlib.Nat.{mod-lt}
 use native.Mathlib.Omega.{arith}
 use lib.Dec.{eqb, eqb→eq, lit<}
-use Rattle.field.proofs.Linear.{all, all-at}
-use Rattle.field.proofs.unseen_zero.Statement.{statement}
-use Rattle.field.proofs.unseen_zero.Tie as tie
+use Rattle.field.proofs.Linear.{all-at}
+use Rattle.field.proofs.unseen_zero.Goals as goal
 
 small : {g : ℕ} → g < 16 → g * g / 256 ≡ 0
 small {g} h = eqb→eq _ _ (all-at 16 (λ (k : ℕ). eqb (k * k / 256) 0) tt g h)
@@ -15,11 +14,8 @@ small {g} h = eqb→eq _ _ (all-at 16 (λ (k : ℕ). eqb (k * k / 256) 0) tt g h
 leaves : {g : ℕ} → g < 16 → g * g % 3 / 2 ≡ 0
 leaves {g} h = eqb→eq _ _ (all-at 16 (λ (k : ℕ). eqb (k * k % 3 / 2) 0) tt g h)
 
-mul-result : tie.Need-overflow-mul-result
-mul-result c = record { fits = omega (arith, small (mod-lt c.args.a (lit< tt))) }
+pub overflow_mul-result : goal.overflow_mul-result
+overflow_mul-result c = record { fits = omega (arith, small (mod-lt c.args.a (lit< tt))) }
 
-returns : tie.Need-returns
+pub returns : goal.returns
 returns c = leaves (mod-lt c.args.a (lit< tt))
-
-pub unseen-zero-spec : {M : Type 1} → statement M
-unseen-zero-spec = tie.close (tie.spec mul-result returns)
