@@ -1,0 +1,19 @@
+-- `sharing::copy_into` meets its contract. The loop's invariant: the turns so far have stored the source's byte at each place passed.
+-- Assumes nothing.
+use native.Mathlib.Omega.{arith}
+use mathlib.Core.Path.{◌≡◌, refl}
+use Prim.Native.Nat.{◌-◌, ◌≤◌}
+use lib.ListN.{length, get_or, length-set}
+use Rattle.sharing.specs.Run.{run}
+use Rattle.sharing.proofs.Loops.{run_none, run-next}
+use Rattle.sharing.proofs.Each.{each, each-tab}
+use Rattle.sharing.proofs.Pairs.{tab_list}
+use borrow.Author.Rules.{rules}
+use Rattle.sharing.proofs.copy_into.Given as goal
+
+abbrev pub invariant-loop-d : goal.invariant-loop-d
+invariant-loop-d l =
+    (l.d-end ≡ length l.src) × (l.d ≤ l.d-end) × (length l.dst ≡ length l.initial.dst) × (l.dst ≡ run (each (λ k x. get_or l.src k 0)) l.d l.initial.dst)
+
+abbrev pub decreases-loop-d : goal.decreases-loop-d
+decreases-loop-d l = l.d-end - l.d

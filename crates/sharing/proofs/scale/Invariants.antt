@@ -1,0 +1,19 @@
+-- `sharing::scale` meets its contract. The loop's invariant: the turns so far have stored z times each place passed.
+-- Assumes nothing.
+use native.Mathlib.Omega.{arith}
+use mathlib.Core.Path.{◌≡◌, ap}
+use Prim.Native.Nat.{ℕ, ◌-◌, ◌≤◌}
+use lib.ListN.{length, set, length-set}
+use Rattle.sharing.specs.Run.{run}
+use Rattle.sharing.proofs.Loops.{run_none, run-next}
+use Rattle.sharing.proofs.Each.{each, each_map}
+use Rattle.sharing.specs.Rules.{scaled}
+use Rattle.field.specs.Field.{field_of}
+use borrow.Author.Rules.{rules}
+use Rattle.sharing.proofs.scale.Given as goal
+
+abbrev pub invariant-loop-i : goal.invariant-loop-i
+invariant-loop-i l = (l.i-end ≡ length l.initial.s) × (l.i ≤ l.i-end) × (length l.s ≡ length l.initial.s) × (l.s ≡ run (each (λ k. (field_of l.f).mul l.z)) l.i l.initial.s)
+
+abbrev pub decreases-loop-i : goal.decreases-loop-i
+decreases-loop-i l = l.i-end - l.i

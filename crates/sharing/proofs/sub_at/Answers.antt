@@ -1,0 +1,7 @@
+-- `sharing::sub_at` meets its contract: one share is read, and its difference with v stored in its place.
+-- Assumes nothing.
+use borrow.Author.Rules.{rules}
+use Rattle.sharing.proofs.sub_at.Goals as goal
+
+pub returns : goal.returns
+returns c = cc
