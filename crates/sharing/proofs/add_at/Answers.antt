@@ -1,6 +1,5 @@
 -- `sharing::add_at` meets its contract: one share is read, and its sum with v stored in its place.
 -- Assumes nothing.
-use borrow.Author.Rules.{rules}
 use Rattle.sharing.proofs.add_at.Goals as goal
 
 pub returns : goal.returns

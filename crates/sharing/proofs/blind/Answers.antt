@@ -1,13 +1,11 @@
 -- `sharing::blind` meets its contract. The loop's invariant: the sharing is a run of the turns so far.
 -- Assumes nothing.
 use native.Mathlib.Omega.{arith}
-use mathlib.Core.Path.{◌≡◌, refl}
-use Prim.Native.Nat.{◌-◌, ◌*◌, ◌≤◌}
+use mathlib.Core.Path.{refl}
+use Prim.Native.Nat.{◌-◌, ◌*◌}
 use lib.ListN.{length}
-use Rattle.sharing.specs.Run.{run}
 use Rattle.sharing.proofs.Loops.{run_none, run-next, run_done, taken_room}
-use Rattle.sharing.specs.Rules.{blind_turn, blinded, inversion_draws}
-use Rattle.field.specs.Field.{field_of}
+use Rattle.sharing.specs.Rules.{blinded, inversion_draws}
 use borrow.Author.Rules.{rules}
 use Rattle.sharing.proofs.blind.Goals as goal
 
@@ -27,7 +25,6 @@ loop-k-preserved c = (
   search rules,
   search rules,
   run-next _ _ _ _ _ c.loop-k.invariant.3 c.blind_turn.ensures,
-
 )
 
 pub returns : goal.returns

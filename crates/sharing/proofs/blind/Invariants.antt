@@ -1,14 +1,11 @@
 -- `sharing::blind` meets its contract. The loop's invariant: the sharing is a run of the turns so far.
 -- Assumes nothing.
-use native.Mathlib.Omega.{arith}
-use mathlib.Core.Path.{◌≡◌, refl}
-use Prim.Native.Nat.{◌-◌, ◌*◌, ◌≤◌}
+use mathlib.Core.Path.{◌≡◌}
+use Prim.Native.Nat.{◌-◌, ◌≤◌}
 use lib.ListN.{length}
 use Rattle.sharing.specs.Run.{run}
-use Rattle.sharing.proofs.Loops.{run_none, run-next, run_done, taken_room}
-use Rattle.sharing.specs.Rules.{blind_turn, blinded, inversion_draws}
+use Rattle.sharing.specs.Rules.{blind_turn}
 use Rattle.field.specs.Field.{field_of}
-use borrow.Author.Rules.{rules}
 use Rattle.sharing.proofs.blind.Given as goal
 
 abbrev pub invariant-loop-k : goal.invariant-loop-k

@@ -2,7 +2,6 @@
 -- Assumes nothing.
 use Rattle.sharing.proofs.Loops.{rest}
 use Rattle.sharing.specs.Rules.{blind_turn}
-use borrow.Author.Rules.{rules}
 use Rattle.sharing.proofs.blind_turn.Goals as goal
 
 pub returns : goal.returns

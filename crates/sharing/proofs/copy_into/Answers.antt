@@ -2,11 +2,9 @@
 -- Assumes nothing.
 use native.Mathlib.Omega.{arith}
 use mathlib.Core.Path.{◌≡◌, refl}
-use Prim.Native.Nat.{◌-◌, ◌≤◌}
-use lib.ListN.{length, get_or, length-set}
-use Rattle.sharing.specs.Run.{run}
+use lib.ListN.{length, length-set}
 use Rattle.sharing.proofs.Loops.{run_none, run-next}
-use Rattle.sharing.proofs.Each.{each, each-tab}
+use Rattle.sharing.proofs.Each.{each-tab}
 use Rattle.sharing.proofs.Pairs.{tab_list}
 use borrow.Author.Rules.{rules}
 use Rattle.sharing.proofs.copy_into.Goals as goal

@@ -1,14 +1,10 @@
 -- `sharing::copy_into` meets its contract. The loop's invariant: the turns so far have stored the source's byte at each place passed.
 -- Assumes nothing.
-use native.Mathlib.Omega.{arith}
-use mathlib.Core.Path.{◌≡◌, refl}
+use mathlib.Core.Path.{◌≡◌}
 use Prim.Native.Nat.{◌-◌, ◌≤◌}
-use lib.ListN.{length, get_or, length-set}
+use lib.ListN.{length, get_or}
 use Rattle.sharing.specs.Run.{run}
-use Rattle.sharing.proofs.Loops.{run_none, run-next}
-use Rattle.sharing.proofs.Each.{each, each-tab}
-use Rattle.sharing.proofs.Pairs.{tab_list}
-use borrow.Author.Rules.{rules}
+use Rattle.sharing.proofs.Each.{each}
 use Rattle.sharing.proofs.copy_into.Given as goal
 
 abbrev pub invariant-loop-d : goal.invariant-loop-d

@@ -2,14 +2,12 @@
 -- Assumes nothing.
 use native.Mathlib.Omega.{arith}
 use mathlib.Core.Path.{◌≡◌, ◌∙◌, ap}
-use Prim.Native.Nat.{ℕ, ◌-◌, ◌≤◌}
+use Prim.Native.Nat.{ℕ, ◌-◌}
 use mathlib.Core.List.{List}
-use lib.ListN.{length, set, replicate, length-set}
-use Rattle.sharing.specs.Run.{run}
+use lib.ListN.{set, length-set}
 use Rattle.sharing.proofs.Loops.{run_none, run-next, run_done}
-use Rattle.sharing.proofs.Each.{each, each_last}
-use Rattle.sharing.specs.Rules.{draw_at, four_of}
-use Rattle.field.specs.Field.{field_of}
+use Rattle.sharing.proofs.Each.{each_last}
+use Rattle.sharing.specs.Rules.{four_of}
 use borrow.Author.Rules.{rules}
 use Rattle.sharing.proofs.factor_list.Goals as goal
 
@@ -22,7 +20,6 @@ loop-k-preserved c = let l = c.loop-k in (
   search rules,
   simp length-set l.invariant.2,
   run-next _ _ _ _ _ l.invariant.3 (ap (λ (x : ℕ). set l.list l.k x) c.draw.ensures),
-
 )
 
 pub returns : goal.returns

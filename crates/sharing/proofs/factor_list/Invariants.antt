@@ -1,16 +1,12 @@
 -- `sharing::factor_list` meets its contract. The loop's invariant: the turns so far have stored the draw at each place passed, over zeros.
 -- Assumes nothing.
-use native.Mathlib.Omega.{arith}
-use mathlib.Core.Path.{◌≡◌, ◌∙◌, ap}
-use Prim.Native.Nat.{ℕ, ◌-◌, ◌≤◌}
-use mathlib.Core.List.{List}
-use lib.ListN.{length, set, replicate, length-set}
+use mathlib.Core.Path.{◌≡◌}
+use Prim.Native.Nat.{◌-◌, ◌≤◌}
+use lib.ListN.{length, replicate}
 use Rattle.sharing.specs.Run.{run}
-use Rattle.sharing.proofs.Loops.{run_none, run-next, run_done}
-use Rattle.sharing.proofs.Each.{each, each_last}
-use Rattle.sharing.specs.Rules.{draw_at, four_of}
+use Rattle.sharing.proofs.Each.{each}
+use Rattle.sharing.specs.Rules.{draw_at}
 use Rattle.field.specs.Field.{field_of}
-use borrow.Author.Rules.{rules}
 use Rattle.sharing.proofs.factor_list.Given as goal
 
 abbrev pub invariant-loop-k : goal.invariant-loop-k

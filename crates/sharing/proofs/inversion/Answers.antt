@@ -2,7 +2,6 @@
 -- Assumes nothing.
 use mathlib.Core.Path.{refl}
 use Rattle.sharing.specs.Rules.{factors}
-use borrow.Author.Rules.{rules}
 use Rattle.sharing.proofs.inversion.Goals as goal
 
 pub returns : goal.returns

@@ -4,7 +4,6 @@ use native.Mathlib.Omega.{arith}
 use Rattle.sharing.specs.Rules.{inversion_draws}
 use Rattle.sharing.proofs.Pairs.{pairs_small}
 use Rattle.sharing.proofs.Draws.{blinding_few, inversion_few}
-use borrow.Author.Rules.{rules}
 use Rattle.sharing.proofs.inversion_draws.Goals as goal
 
 pub overflow_mul-result : goal.overflow_mul-result

@@ -1,14 +1,12 @@
 -- `sharing::look_up16` meets its contract. The loop's invariant: the turns so far have stored z times each place passed.
 -- Assumes nothing.
 use native.Mathlib.Omega.{arith}
-use mathlib.Core.Path.{◌≡◌, ap}
-use Prim.Native.Nat.{ℕ, ◌-◌, ◌≤◌}
-use lib.ListN.{length, set, length-set}
-use Rattle.field.specs.Field.{F16}
-use Rattle.sharing.specs.Run.{run}
+use mathlib.Core.Path.{ap}
+use Prim.Native.Nat.{ℕ}
+use lib.ListN.{set, length-set}
 use Rattle.sharing.specs.Rules.{scaled}
 use Rattle.sharing.proofs.Loops.{run_none, run-next}
-use Rattle.sharing.proofs.Each.{each, each_map}
+use Rattle.sharing.proofs.Each.{each_map}
 use borrow.Author.Rules.{rules}
 use Rattle.sharing.proofs.look_up16.Goals as goal
 

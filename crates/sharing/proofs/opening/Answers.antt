@@ -1,6 +1,5 @@
 -- `sharing::opening` meets its contract: what is summed is what s is left as, its pair refresh.
 -- Assumes nothing.
-use borrow.Author.Rules.{rules}
 use Rattle.sharing.specs.Rules.{opening}
 use Rattle.sharing.proofs.opening.Goals as goal
 

@@ -4,7 +4,6 @@ use native.Mathlib.Omega.{arith}
 use Prim.Native.Nat.{◌-◌}
 use native.Mathlib.Nat.{mul-le-mul}
 use Rattle.sharing.proofs.Pairs.{pairs_count}
-use borrow.Author.Rules.{rules}
 use Rattle.sharing.proofs.pair_count.Goals as goal
 
 pub overflow_mul-result : goal.overflow_mul-result

@@ -1,14 +1,12 @@
 -- `sharing::pair_refresh` meets its contract. The loop's invariant: the sharing is a run over the pairs of the first i places.
 -- Assumes nothing.
 use native.Mathlib.Omega.{arith}
-use mathlib.Core.Path.{◌≡◌}
-use Prim.Native.Nat.{suc, ◌-◌, ◌≤◌}
+use Prim.Native.Nat.{suc, ◌≤◌}
 use lib.ListN.{length}
-use Rattle.sharing.specs.Run.{run, before, pairs_of, over_pairs}
+use Rattle.sharing.specs.Run.{before, over_pairs}
 use Rattle.sharing.proofs.Loops.{run_none, run-next, run_done}
 use Rattle.sharing.proofs.Pairs.{pairs_room}
-use Rattle.sharing.specs.Rules.{pair_refresh_turn, pair_refresh}
-use Rattle.field.specs.Field.{field_of}
+use Rattle.sharing.specs.Rules.{pair_refresh}
 use native.Mathlib.Numerals.{add-one}
 use borrow.Author.Rules.{rules}
 use Rattle.sharing.proofs.pair_refresh.Goals as goal
@@ -33,7 +31,6 @@ loop-i-preserved c = let l = c.loop-i in (
   rw add-one (omega arith),
   search rules,
   run-next _ _ _ _ _ l.invariant.3 (rw l.invariant.2 at c.pair_refresh_of.ensures),
-
 )
 
 pub returns : goal.returns

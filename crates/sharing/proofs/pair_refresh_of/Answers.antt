@@ -1,14 +1,10 @@
 -- `sharing::pair_refresh_of` meets its contract. The loop's invariant: the sharing is a run of the turns of i's pairs so far.
 -- Assumes nothing.
 use native.Mathlib.Omega.{arith}
-use mathlib.Core.Path.{◌≡◌}
-use Prim.Native.Nat.{◌+◌, ◌-◌, ◌<◌, ◌≤◌}
+use Prim.Native.Nat.{◌+◌, ◌<◌}
 use lib.ListN.{length}
-use Rattle.sharing.specs.Run.{run, pair_turn}
 use Rattle.sharing.proofs.Loops.{run_none, run-next, run_done}
 use Rattle.sharing.proofs.Pairs.{pairs_room}
-use Rattle.sharing.specs.Rules.{pair_refresh_turn}
-use Rattle.field.specs.Field.{field_of}
 use borrow.Author.Rules.{rules}
 use Rattle.sharing.proofs.pair_refresh_of.Goals as goal
 use Rattle.sharing.proofs.pair_refresh_of.Goals.{After-pair_refresh_turn-arg-1}
@@ -31,7 +27,6 @@ loop-u-preserved c = let x = c in (
   search rules,
   search rules,
   run-next _ _ _ _ _ c.loop-u.invariant.2 (rw x.requires.2 at c.pair_refresh_turn.ensures),
-
 )
 
 pub returns : goal.returns

@@ -1,15 +1,11 @@
 -- `sharing::pair_refresh_of` meets its contract. The loop's invariant: the sharing is a run of the turns of i's pairs so far.
 -- Assumes nothing.
-use native.Mathlib.Omega.{arith}
 use mathlib.Core.Path.{◌≡◌}
-use Prim.Native.Nat.{◌+◌, ◌-◌, ◌<◌, ◌≤◌}
+use Prim.Native.Nat.{◌-◌, ◌≤◌}
 use lib.ListN.{length}
 use Rattle.sharing.specs.Run.{run, pair_turn}
-use Rattle.sharing.proofs.Loops.{run_none, run-next, run_done}
-use Rattle.sharing.proofs.Pairs.{pairs_room}
 use Rattle.sharing.specs.Rules.{pair_refresh_turn}
 use Rattle.field.specs.Field.{field_of}
-use borrow.Author.Rules.{rules}
 use Rattle.sharing.proofs.pair_refresh_of.Given as goal
 
 abbrev pub invariant-loop-u : goal.invariant-loop-u

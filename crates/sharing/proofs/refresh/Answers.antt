@@ -1,13 +1,8 @@
 -- `sharing::refresh` meets its contract. The loop's invariant: the sharing is a run of the turns so far.
 -- Assumes nothing.
 use native.Mathlib.Omega.{arith}
-use mathlib.Core.Path.{◌≡◌}
-use Prim.Native.Nat.{◌-◌, ◌≤◌}
-use lib.ListN.{length}
-use Rattle.sharing.specs.Run.{run}
 use Rattle.sharing.proofs.Loops.{run_none, run-next, run_done}
-use Rattle.sharing.specs.Rules.{refresh_turn, refresh}
-use Rattle.field.specs.Field.{field_of}
+use Rattle.sharing.specs.Rules.{refresh}
 use borrow.Author.Rules.{rules}
 use Rattle.sharing.proofs.refresh.Goals as goal
 
@@ -20,7 +15,6 @@ loop-k-preserved c = (
   search rules,
   search rules,
   run-next _ _ _ _ _ c.loop-k.invariant.3 c.refresh_turn.ensures,
-
 )
 
 pub returns : goal.returns

@@ -1,7 +1,6 @@
 -- `sharing::refresh_turn` meets its contract: its calls are the turn's two sums, in that order.
 -- Assumes nothing.
 use Rattle.sharing.specs.Rules.{refresh_turn}
-use borrow.Author.Rules.{rules}
 use Rattle.sharing.proofs.refresh_turn.Goals as goal
 
 pub returns : goal.returns

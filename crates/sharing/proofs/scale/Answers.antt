@@ -1,14 +1,12 @@
 -- `sharing::scale` meets its contract. The loop's invariant: the turns so far have stored z times each place passed.
 -- Assumes nothing.
 use native.Mathlib.Omega.{arith}
-use mathlib.Core.Path.{◌≡◌, ap}
-use Prim.Native.Nat.{ℕ, ◌-◌, ◌≤◌}
-use lib.ListN.{length, set, length-set}
-use Rattle.sharing.specs.Run.{run}
+use mathlib.Core.Path.{ap}
+use Prim.Native.Nat.{ℕ}
+use lib.ListN.{set, length-set}
 use Rattle.sharing.proofs.Loops.{run_none, run-next}
-use Rattle.sharing.proofs.Each.{each, each_map}
+use Rattle.sharing.proofs.Each.{each_map}
 use Rattle.sharing.specs.Rules.{scaled}
-use Rattle.field.specs.Field.{field_of}
 use borrow.Author.Rules.{rules}
 use Rattle.sharing.proofs.scale.Goals as goal
 
@@ -21,7 +19,6 @@ loop-i-preserved c = let l = c.loop-i in (
   search rules,
   simp length-set l.invariant.2,
   run-next _ _ _ _ _ l.invariant.3 (ap (λ (x : ℕ). set l.s l.i x) c.mul.ensures),
-
 )
 
 pub returns : goal.returns

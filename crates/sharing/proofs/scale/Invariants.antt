@@ -1,15 +1,11 @@
 -- `sharing::scale` meets its contract. The loop's invariant: the turns so far have stored z times each place passed.
 -- Assumes nothing.
-use native.Mathlib.Omega.{arith}
-use mathlib.Core.Path.{◌≡◌, ap}
-use Prim.Native.Nat.{ℕ, ◌-◌, ◌≤◌}
-use lib.ListN.{length, set, length-set}
+use mathlib.Core.Path.{◌≡◌}
+use Prim.Native.Nat.{◌-◌, ◌≤◌}
+use lib.ListN.{length}
 use Rattle.sharing.specs.Run.{run}
-use Rattle.sharing.proofs.Loops.{run_none, run-next}
-use Rattle.sharing.proofs.Each.{each, each_map}
-use Rattle.sharing.specs.Rules.{scaled}
+use Rattle.sharing.proofs.Each.{each}
 use Rattle.field.specs.Field.{field_of}
-use borrow.Author.Rules.{rules}
 use Rattle.sharing.proofs.scale.Given as goal
 
 abbrev pub invariant-loop-i : goal.invariant-loop-i

@@ -2,7 +2,6 @@
 -- Assumes nothing.
 use borrow.Author.Tests.{eq-eqb}
 use Rattle.field.specs.Field.{field_of}
-use borrow.Author.Rules.{rules}
 use Rattle.sharing.proofs.scale_opened.Goals as goal
 
 pub returns-then-f-eq16 : goal.returns-then-f-eq16

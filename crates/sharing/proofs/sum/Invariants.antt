@@ -1,14 +1,10 @@
 -- `sharing::sum` meets its contract. The loop's invariant: v is the sum of the shares from place i on.
 -- Assumes nothing.
-use native.Mathlib.Omega.{arith}
-use mathlib.Core.Path.{◌≡◌, ◌∙◌, sym, ap}
-use Prim.Native.Nat.{ℕ, suc, ◌-◌, ◌<◌, ◌≤◌}
-use lib.ListN.{length, get_or, drop}
-use lib.Seq.{drop-cons, drop-length}
+use mathlib.Core.Path.{◌≡◌}
+use Prim.Native.Nat.{◌≤◌}
+use lib.ListN.{length, drop}
 use Rattle.sharing.specs.Rules.{sum}
-use Rattle.field.specs.Field.{field_of, Ops}
-use mathlib.Core.List.{List}
-use borrow.Author.Rules.{rules}
+use Rattle.field.specs.Field.{field_of}
 use Rattle.sharing.proofs.sum.Given as goal
 
 abbrev pub invariant-loop-i : goal.invariant-loop-i
