@@ -1,6 +1,8 @@
 // The zero flag of 01, refreshed as R-6 has it, and And, of which it is made. Stands on sharing.
 // A sharing is a slice of its n shares, n from 2 to 4; ds is a part of the mask tape that begins at the rule's own first draw and is at
 // least as long as the rule needs. Sums are exclusive or here, so that the folds serve the binary fields.
+#![tactic(auto)]
+
 ghost use Rattle.std.specs.Prelude.{◌≡◌, ◌+◌, ◌-◌, ◌*◌, ◌<◌, ◌≤◌, length, drop};
 ghost use Rattle.field.specs.Field.{Binary, field_of};
 ghost use Rattle.sharing.specs.Run.{run, before, pairs, pairs_of, over_pairs};
