@@ -1,6 +1,8 @@
 // What the checks of the calls have in common: 01's table of refusals, with R-2's details and the numbers of R-3, R-5, R-7 and R-8, the checks
 // 1 to 9, 14, 15 and 21, and how checks follow each other. Stands on field. Nothing lent is written, and bytes are looked at only where the
 // length is right.
+#![tactic(auto)]
+
 ghost use Rattle.std.specs.Prelude.{◌≡◌, [], ◌∷◌, ◌+◌, ◌*◌, ◌/◌, ◌%◌, ◌<◌, ◌≤◌, ltb, length, take};
 ghost use Rattle.verdict.specs.Told.{line, when, refuse, refused, ◌or◌};
 ghost use Rattle.verdict.specs.Cells.{cell, three, cell_at, NonEmpty};

@@ -1,0 +1,9 @@
+-- `no2` meets its contract: the test decides as the definition does.
+-- Assumes nothing.
+use Rattle.verdict.specs.Refusals.{no2}
+use Rattle.verdict.proofs.Verdicts.{tests}
+use Rattle.verdict.proofs.no2.Goals as goal
+
+pub returns : goal.returns
+unfolding no2
+returns c = tests _ c.refuse_if.ensures c.is_outside.ensures
