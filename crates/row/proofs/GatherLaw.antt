@@ -8,7 +8,6 @@ use native.Mathlib.Omega.{arith}
 use native.Mathlib.Decide.{dec_lt}
 use native.Mathlib.Nat.{mod-mod}
 use lib.Bits.{bit_xor, bit_and, and_mask, and_zero_r, xor_zero_r}
-use lib.Dec.{eqb}
 use lib.ListN.{get_or}
 use borrow.Author.Tests.{le-leb, lt-leb}
 use Rattle.field.specs.Field.{pick, Binary, field_of, F16, F256}

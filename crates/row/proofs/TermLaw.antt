@@ -8,7 +8,7 @@ use native.Mathlib.Omega.{arith}
 use native.Mathlib.Nat.{mod-lt, mod-eq_of_lt, pow-suc}
 use lib.Arith.{mod-mul}
 use lib.Bits.{bit_xor}
-use lib.Dec.{T, eqb, lit<}
+use lib.Dec.{T, lit<}
 use lib.ListN.{get_or}
 use lib.Pow.{pow_pos}
 use Rattle.field.specs.Poly.{product}

@@ -9,6 +9,8 @@
 //
 // A product is a choice for each bit: `repeat` and `double_rows` make a stream of the factor's shares, over and over, and of their doubles,
 // r bytes for each bit of an element. Read from d places before, it has at each byte the share that row d wants.
+#![tactic(auto)]
+
 ghost use Rattle.std.specs.Prelude.{◌≡◌, ◌+◌, ◌-◌, ◌*◌, ◌<◌, ◌≤◌, length};
 ghost use Rattle.field.specs.Field.{field_of, draw};
 ghost use Rattle.sharing.specs.Run.{run, tab, before, pairs, pairs_of, over_pairs};

@@ -1,0 +1,25 @@
+-- `row::product_16_2` meets its contract: the passes one after another.
+-- Assumes nothing.
+use Prim.Native.Nat.{◌+◌, ◌*◌, ◌/◌}
+use native.Mathlib.Omega.{arith}
+use lib.Dec.{lit<, lit≤}
+use lib.ListN.{replicate}
+use Rattle.field.specs.Field.{F16, field_of, bits}
+use Rattle.field.proofs.Fields.{binary_of}
+use Rattle.sharing.specs.Bounds.{work_room2}
+use Rattle.row.proofs.Filling.{zeros-at}
+use Rattle.row.proofs.Assembling.{passes_left}
+use Rattle.row.proofs.product_16_2.Goals as goal
+
+pub returns : goal.returns
+unfolding bits field_of F16
+returns c =
+    let s = c in
+    let x = s.args in
+    passes_left (binary_of 16) 2 x.columns 16 32 8 ((x.columns * 2 + 15) / 16) 24 ((x.columns * 2 + 47) / 48) ((x.columns * 2 + 47) / 48 * 48)
+    x.mask.now x.a.now x.row.now (replicate work_room2 0) (replicate 128 0)
+    (lit≤ tt) (lit≤ tt) (lit≤ tt) (lit≤ tt) (lit≤ tt) (lit< tt) (lit≤ tt)
+    (omega arith) (omega arith) (omega arith) (omega arith) (omega arith) (omega arith)
+    (zeros-at work_room2) s.requires.below s.requires.le_columns.3 _ _ _ _ _
+    c.spread.ensures c.repeat.ensures c.double_rows.ensures
+    c.products.ensures c.gather.ensures
