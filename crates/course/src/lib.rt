@@ -1,4 +1,5 @@
 // The course of a solve: the step list, the progress record and its next place, and what the steps draw. Stands on table, for the costs.
+#![tactic(auto)]
 ghost use Rattle.std.specs.Prelude.{◌≡◌, true, ◌+◌, ◌*◌, ◌≤◌};
 ghost use Rattle.sharing.specs.Bounds.{most_rows, most_width, most_columns};
 ghost use Rattle.course.specs.StepList.{Sizes, in_list, column_of, cost_in, cost_of, mask_cost, nonzero_cost, step_list, sums};
@@ -6,7 +7,7 @@ ghost use Rattle.course.specs.Next.{first_of, following, order_of, moved_on, sta
 ghost use Rattle.course.specs.Code.Closed.{flags_over, rows_over, part_at, part_of, Stands, Kept, weighed, mask_of, agrees};
 
 // One of the six steps with its j and k. Check, Scale, Open and Lift carry j only.
-#[derive(Drop)]
+#[derive(Clone, Copy)]
 pub enum Step {
     Mix { j: u64, k: u64 },
     Check(u64),
@@ -16,7 +17,7 @@ pub enum Step {
     Lift(u64),
 }
 
-#[derive(Drop)]
+#[derive(Clone, Copy)]
 pub enum Place {
     At(Step),
     Stopped(u64),
@@ -24,7 +25,7 @@ pub enum Place {
 }
 
 // Field, shares and size, as an order form has them.
-#[derive(Drop)]
+#[derive(Clone, Copy)]
 pub struct Order {
     pub field: u64,
     pub shares: u64,
@@ -32,7 +33,7 @@ pub struct Order {
 }
 
 // The progress record, with the draws taken so far.
-#[derive(Drop)]
+#[derive(Clone, Copy)]
 pub struct Progress {
     pub field: u64,
     pub shares: u64,
@@ -43,14 +44,14 @@ pub struct Progress {
 }
 
 // Mask draws and nonzero draws.
-#[derive(Drop)]
+#[derive(Clone, Copy)]
 pub struct Draws {
     pub mask: usize,
     pub nonzero: usize,
 }
 
 // Steps, mask draws and nonzero draws.
-#[derive(Drop)]
+#[derive(Clone, Copy)]
 pub struct Counts {
     pub steps: usize,
     pub mask: usize,
@@ -235,7 +236,7 @@ pub fn cost(o: Order, s: Step) -> Draws
 // The draws taken at a place, with no walk over the list: refusal 19 asks for them in every step call. What a place has taken beside the columns
 // that are done: `width` is the columns of a row from the first column that is not done on (1 where all are), `flags` so many zero flags more, and
 // `more` and `less` so many times the N draws of all pairs.
-#[derive(Drop)]
+#[derive(Clone, Copy)]
 pub struct Part {
     pub width: usize,
     pub flags: usize,
