@@ -1,7 +1,7 @@
 -- What a pass of the checks of each call says, and what passes.
 -- Assumes nothing.
 use mathlib.Core.List.{List, []}
-use mathlib.Core.Logic.{◌⊎◌, ⊎_elim}
+use mathlib.Core.Logic.{⊎_elim}
 use mathlib.Core.Path.{◌≡◌, sym, ap, ◌∙◌}
 use Prim.Native.Nat.{ℕ, ◌+◌, ◌*◌, ◌≤◌}
 use native.Mathlib.Nat.{mul-le-mul}
@@ -13,9 +13,8 @@ use Rattle.sharing.specs.Bounds.{most_rows, most_width}
 use Rattle.verdict.specs.declared.Refusal.{Refusal}
 use Rattle.verdict.specs.declared.Verdict.{Verdict}
 use Rattle.verdict.specs.declared.Verdict.TheVariants.{Pass, Refuse}
-use Rattle.verdict.specs.Told.{passed, ◌or◌}
+use Rattle.verdict.specs.Told.{passed}
 use Rattle.verdict.specs.Cells.{bytes_of}
-use Rattle.verdict.specs.Refusals.{numbers}
 use Rattle.verdict.specs.Code.Verdicts.{told}
 use Rattle.verdict.proofs.Told.{left, right}
 use Rattle.verdict.proofs.Passes.{Numbers, numbered, numbers_pass, long_enough, buffered, buffers_pass, ◌and◌}

@@ -9,7 +9,7 @@ use native.Mathlib.Omega.{arith}
 use lib.ListN.{length, get_or, take, drop, length-drop, take-append-drop, drop_of_length-le}
 use lib.Seq.{length-take-le, drop-cons, drop-drop, take_at, drop_at, get_or-append-add}
 use Rattle.sharing.specs.Lists.{Below}
-use Rattle.verdict.specs.Told.{passed, ◌or◌}
+use Rattle.verdict.specs.Told.{passed}
 use Rattle.verdict.specs.Refusals.{no4}
 use Rattle.verdict.specs.Calls.{after, gives}
 use Rattle.verdict.proofs.Told.{left, right}

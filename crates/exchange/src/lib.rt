@@ -1,6 +1,8 @@
 // The exchange record of R-3: a shared system as one record of tagged fields, for two sites that swap bench systems. Stands on verdict.
 // The entry calls are `write`, `read` and `table_in`: they take any numbers and any slices, do all their own checking, and promise by one
 // equation each their answer and every lent byte.
+#![tactic(auto)]
+
 ghost use Rattle.std.specs.Prelude.{◌≡◌, ◌+◌, ◌≤◌, length};
 ghost use Rattle.sharing.specs.Bounds.{most_rows};
 ghost use Rattle.verdict.specs.Told.{passed};
