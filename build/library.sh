@@ -1,6 +1,6 @@
 # build_library makes target/staticlib/libhost.a, unless the archive there is that of the sources as they stand. For scripts that link or
-# install it, sourced from the top of the clone. rt can only make the archive by checking crate host itself once more, some 25 s each time;
-# what host stands on is not proved again. So a key beside the archive tells what it was made of.
+# install it, sourced from the top of the clone. rt makes the archive by checking crate host itself once more each time; what host stands on is not
+# proved again where it has not changed. So a key beside the archive tells what it was made of.
 . build/proving.sh
 
 archive=target/staticlib/libhost.a
@@ -25,15 +25,9 @@ library_stands() {
     archive_key "$(sources_key)" 2>/dev/null | cmp -s - "$archive.key"
 }
 
-# rt staticlib goes over its crates one at a time. rt check has a processor for each, so it goes first.
+# rt leaves the archive in the crate's own folder.
 prove_and_archive() { # LOG
-    crates=$(crates_under host)
-    left=$(echo "$crates" | wc -l)
-    # shellcheck disable=SC2046
-    run_rt "$1" "$left" check $(echo "$crates" | grep -vx host) || return
-    began=$(date +%s)
-    run_rt "$1" "$left" staticlib host || return
-    echo "proved host ($(($(date +%s) - began)) s), 0 left" >&2
+    run_rt "$1" "$(crates_under host | wc -l)" host lib && cp crates/host/out/libhost.a "$archive"
 }
 
 # The old key goes before the build and the new one comes after it, so a build that is broken off leaves none.

@@ -32,26 +32,26 @@ alone() { # COMMAND..
     ) 9>target/lock
 }
 
-# Reads what rt says and tells of each crate that it proved.
+# Reads what rt says and tells of each crate that it proved: rt closes each with a line of the modules that it loaded, and says nothing of a crate that
+# stands as it was proved before.
 tell_proved() { # LEFT
     left=$1
     while IFS= read -r line; do
-        case $line in 'rt: '*' proved ('*')') left=$((left - 1)) ;; *) continue ;; esac
-        case $line in *' s)') ;; *) continue ;; esac
-        line=${line#rt: }
-        echo "proved ${line%% *} ${line#* proved }, $left left" >&2
+        case $line in 'crate '*': modules '*) ;; *) continue ;; esac
+        line=${line#crate } left=$((left - 1))
+        echo "proved ${line%%:*}, at most $left left" >&2
     done
 }
 
-# rt WORDS.., where LEFT crates are still to be gone over. All that rt says is added to LOG. An interrupt does not reach the provers that
-# rt starts, so rt has a session of its own, which a signal to this script ends as a whole. rt trusts nothing of a crate whose proof was
-# broken off.
-run_rt() ( # LOG LEFT WORDS..
-    log=$1 left=$2 pipe=target/rt.pipe
-    shift 2
+# rt WORDS.. in a crate's folder, where LEFT crates are still to be gone over: rt works in the crate that it is started in, and on those below it. All
+# that rt says is added to LOG. An interrupt does not reach the provers that rt starts, so rt has a session of its own, which a signal to this script
+# ends as a whole. rt trusts nothing of a crate whose proof was broken off.
+run_rt() ( # LOG LEFT CRATE WORDS..
+    log=$1 left=$2 crate=$3 pipe=$PWD/target/rt.pipe
+    shift 3
     rm -f "$pipe"
     mkfifo "$pipe" || exit
-    setsid "$rt" "$@" </dev/null >"$pipe" 2>&1 &
+    (cd "crates/$crate" && exec setsid "$rt" "$@") </dev/null >"$pipe" 2>&1 &
     session=$!
     for signal in HUP INT TERM; do
         # shellcheck disable=SC2064

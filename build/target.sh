@@ -5,13 +5,13 @@
 
 module=target/module/host.bc
 
-# The folder of the kit, as rt finds it, and in it what was compiled for this machine.
+# The folder of the kit, as rt finds it.
 kit_folder() {
     printf '%s\n' "${RATTLE_HOME:-$(dirname "$(dirname "$(readlink -f "$rt")")")}"
 }
 
 kit_compiler() {
-    printf '%s\n' "$(kit_folder)/on/$(uname -m)/toolchain/bin/clang"
+    printf '%s\n' "$(kit_folder)/toolchain/bin/clang"
 }
 
 # ---- The module
@@ -24,24 +24,28 @@ link_all_but() { # FOLDER THING TO
     done
 }
 
-# The kit, with a compiler that keeps a copy of the module that it is handed, and of the words, and then does its work.
+# The kit, with a compiler that keeps a copy of the module that it is handed, and of the words, and then does its work. A program of the kit finds the kit by
+# where it stands itself, so the programs are no symbolic links.
 kit_that_keeps() { # FOLDER
-    home=$(kit_folder) machine=$(uname -m)
+    home=$(kit_folder)
     rm -rf "$1"
-    link_all_but "$home" on "$1" &&
-        link_all_but "$home/on/$machine" toolchain "$1/on/$machine" &&
-        link_all_but "$home/on/$machine/toolchain" bin "$1/on/$machine/toolchain" &&
-        link_all_but "$home/on/$machine/toolchain/bin" clang "$1/on/$machine/toolchain/bin" || return
-    cat >"$1/on/$machine/toolchain/bin/clang" <<END_OF_FILE
+    mkdir -p "$1" || return
+    for thing in "$home"/*; do
+        case $(basename "$thing") in bin | toolchain) ;; *) ln -s "$thing" "$1" || return ;; esac
+    done
+    cp -rl "$home/bin" "$1" 2>/dev/null || { rm -rf "$1/bin" && cp -r "$home/bin" "$1"; } || return
+    link_all_but "$home/toolchain" bin "$1/toolchain" &&
+        link_all_but "$home/toolchain/bin" clang "$1/toolchain/bin" || return
+    cat >"$1/toolchain/bin/clang" <<END_OF_FILE
 #!/bin/sh
 [ ! -e '$PWD/$module' ] || { echo "more than one module is handed over" >&2; exit 1; }
 for word; do
     case \$word in *.bc) cp "\$word" '$PWD/$module' || exit ;; esac
 done
 printf '%s\n' "\$@" >'$PWD/$module.words' || exit
-exec '$home/on/$machine/toolchain/bin/clang' "\$@"
+exec '$home/toolchain/bin/clang' "\$@"
 END_OF_FILE
-    chmod +x "$1/on/$machine/toolchain/bin/clang"
+    chmod +x "$1/toolchain/bin/clang"
 }
 
 module_key() {
@@ -61,7 +65,7 @@ make_module() {
     log=target/module/host.log
     rm -f "$module" "$module".* "$log"
     before=$(sha256sum <"$archive")
-    if ! { kit_that_keeps target/module/kit && (export RATTLE_HOME="$PWD/target/module/kit" && run_rt "$log" 1 staticlib host); }; then
+    if ! { kit_that_keeps target/module/kit && (rt=$PWD/target/module/kit/bin/rt && run_rt "$log" 1 host lib && cp crates/host/out/libhost.a "$archive"); }; then
         [ ! -e "$log" ] || tail -n 20 "$log" >&2
         echo "the module could not be made; all that rt said is in $log" >&2
         return 1
