@@ -1,5 +1,7 @@
 // The fields F16 and F256: sum, difference, product, inverse, the element that a byte counts as, and the draw of a tape's byte.
 // The ground of the map: it stands on nothing. An operation takes any bytes; a byte of 16 or more counts in F16 as what it leaves.
+#![tactic(auto)]
+
 ghost use Rattle.std.specs.Prelude.{◌≡◌, ◌%◌};
 ghost use Rattle.field.specs.Field.{F16, F256, inv, field_of, sub, draw, RowOf};
 ghost use Rattle.field.specs.Code.Power.{power254};

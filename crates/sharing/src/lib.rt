@@ -1,6 +1,8 @@
 // The small rules on sharings of 01: Refresh, the pair refresh, Opening and Inversion. Product stands in row, and the zero flag in flag.
 // Stands on field. A sharing is a slice of its n shares, n from 2 to 4; ds is a part of the mask tape that begins at the rule's own first
 // draw and is at least as long as the rule needs.
+#![tactic(auto)]
+
 ghost use Rattle.std.specs.Prelude.{◌≡◌, [], ◌∷◌, ◌++◌, ◌+◌, ◌-◌, ◌*◌, ◌<◌, ◌≤◌, length, replicate};
 ghost use Rattle.field.specs.Field.{F16, field_of};
 ghost use Rattle.sharing.specs.Run.{tab, before, pairs, pairs_of};
