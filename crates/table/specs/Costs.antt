@@ -22,7 +22,7 @@ scale_cost n L = inversion_draws n + n * (n - 1) * L
 unfoldable pub scale_nonzero : ℕ → ℕ
 scale_nonzero n = n - 1
 
--- L-as-N
+-- L·N
 unfoldable pub clear_cost : ℕ → ℕ → ℕ
 clear_cost n L = L * pairs n
 

@@ -1,6 +1,8 @@
 // The six steps on a lent table, share for share as 01's step list says, with Open in two by R-7 of 02. Stands on row, flag and sharing.
 // f is the field's number, n the shares and w the entries of a row; the step works on the table in place and on copies of what it reads
 // twice. mask and nonzero are parts of the two tapes that begin at the step's own first draw and are at least as long as it needs.
+#![tactic(auto)]
+
 ghost use Rattle.std.specs.Prelude.{◌≡◌, ◌+◌, ◌-◌, ◌*◌, ◌≤◌, eqb, length};
 ghost use Rattle.field.specs.Field.{field_of, sub};
 ghost use Rattle.sharing.specs.Run.{pairs};
@@ -340,7 +342,7 @@ pub fn open(f: u64, n: usize, rows: usize, w: usize, table: &[u8], r: usize, mas
     sharing::opening(f, &mut copy[..n], mask)
 }
 
-// T[i+1,w] -= typeof.x.T[i+1,j], share by share.
+// T[i+1,w] -= x·T[i+1,j], share by share.
 fn lift_row(f: u64, n: usize, rows: usize, w: usize, table: &mut [u8], j: usize, x: u8, i: usize)
     requires fits { Fits n rows w }
     requires inside { Inside rows w (i + 1) j }
