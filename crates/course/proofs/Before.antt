@@ -14,7 +14,7 @@ use Rattle.field.specs.Field.{pick}
 use Rattle.course.specs.declared.Step.{Step}
 use Rattle.course.specs.declared.Step.TheVariants.{Mix, Check, Scale, Clear, Open, Lift}
 use Rattle.course.specs.declared.Place.{Place}
-use Rattle.course.specs.declared.Place.TheVariants.{At, Stopped, Done}
+use Rattle.course.specs.declared.Place.TheVariants.{At, Done}
 use Rattle.course.specs.declared.Order.{Order}
 use Rattle.course.specs.StepList.{each, column, columns, openings, step_list, up_to, in_list, draws, mask_cost, nonzero_cost, sum_over, full_mask, full_nonzero}
 use Rattle.course.specs.Taken.{before_step, steps_before, taken_at}
@@ -146,6 +146,7 @@ module _ (m : ℕ) where
   met : (s : Step) (p : Place) (a l : List Step) → Chain m p l Done → AllIn m l → steps_before m p ≡ a → Memᴰ s l
       → (rest : List Step) × (a ++ l ≡ before_step m s ++ (s ∷ rest))
   unfolding steps_before
+  met s p a [] c i e d = elim d [ ]
   met s p a (t ∷ l) c i e (Memᴰ.head h) =
       let b : before_step m s ≡ a = rw h (sym (ap (steps_before m) c.0) ∙ e) in
       (l, rw (b, h))

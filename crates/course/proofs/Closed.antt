@@ -3,14 +3,14 @@
 use mathlib.Core.Bool.{true}
 use mathlib.Core.List.{List, [], ◌∷◌, ◌++◌}
 use mathlib.Core.Path.{◌≡◌, refl, sym, ap, ◌∙◌}
-use Prim.Native.Nat.{ℕ, zero, suc, ◌<◌, ◌≤◌, ◌+◌, ◌-◌, ◌*◌, ◌/◌}
+use Prim.Native.Nat.{ℕ, zero, suc, ◌<◌, ◌≤◌, ◌+◌, ◌-◌, ◌*◌}
 use native.Mathlib.Omega.{arith}
 use native.Mathlib.Nat.{mul-le-mul, div-eq_of_eq-mul_right}
 use lib.ListN.{take}
 use lib.Seq.{take_all}
 use Rattle.sharing.specs.Run.{pairs}
 use Rattle.sharing.specs.Rules.{inversion_draws}
-use Rattle.sharing.specs.Bounds.{most_rows, most_width}
+use Rattle.sharing.specs.Bounds.{most_width}
 use Rattle.sharing.proofs.Pairs.{pairs-double}
 use Rattle.flag.specs.Flag.{flag_draws}
 use Rattle.table.specs.Costs.{mix_cost, check_cost, scale_cost, scale_nonzero, clear_cost, open_cost}

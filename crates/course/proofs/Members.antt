@@ -52,6 +52,7 @@ module _ (m : ℕ) where
   all_in = all_append (columns m 1 m) (openings m) (all-columns m 1 (omega arith) (omega arith)) (all-openings m (omega arith))
 
   passes : {s : Step} (l : List Step) → AllIn m l → Memᴰ s l → in_list m s ≡ true
+  passes {s = s} [] h x'' = elim x'' [ ]
   passes (x ∷ l) h (Memᴰ.head e) = rw e h.0
   passes (x ∷ l) h (Memᴰ.tail d) = passes l h.1 d
 

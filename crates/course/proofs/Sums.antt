@@ -5,7 +5,7 @@ use mathlib.Core.List.{List, [], ◌∷◌, ◌++◌}
 use mathlib.Core.Path.{◌≡◌, refl, ap}
 use Prim.Native.Nat.{ℕ, zero, suc, ◌≤◌, ◌+◌, ◌-◌, ◌*◌}
 use native.Mathlib.Omega.{arith}
-use native.Mathlib.Nat.{suc-mul, mul-suc, mul-add, mul-le-mul, mul-le-mul_right}
+use native.Mathlib.Nat.{suc-mul, mul-suc, mul-le-mul, mul-le-mul_right}
 use lib.ListN.{length, length-append}
 use Rattle.sharing.specs.Bounds.{most_rows, most_columns, most_steps, most_draws}
 use Rattle.table.proofs.CostBounds.{mix_few, check_few, scale_few, clear_few, open_few}

@@ -1,6 +1,6 @@
 -- 02, R-5: "the mask and nonzero draws taken so far". At each place they are 01's sums over the steps of the list that come before it.
 -- Assumes nothing.
-use Rattle.std.specs.Prelude.{List, [], ◌∷◌, ◌++◌, ℕ, ◌+◌, ◌-◌, ◌*◌, take}
+use Rattle.std.specs.Prelude.{List, ◌∷◌, ◌++◌, ℕ, ◌+◌, ◌-◌, ◌*◌, take}
 use Rattle.course.specs.declared.Step.{Step}
 use Rattle.course.specs.declared.Step.TheVariants.{Mix, Check, Scale, Clear, Open, Lift}
 use Rattle.course.specs.declared.Place.{Place}

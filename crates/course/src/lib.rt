@@ -1,5 +1,6 @@
 // The course of a solve: the step list, the progress record and its next place, and what the steps draw. Stands on table, for the costs.
 #![tactic(auto)]
+
 ghost use Rattle.std.specs.Prelude.{◌≡◌, true, ◌+◌, ◌*◌, ◌≤◌};
 ghost use Rattle.sharing.specs.Bounds.{most_rows, most_width, most_columns};
 ghost use Rattle.course.specs.StepList.{Sizes, in_list, column_of, cost_in, cost_of, mask_cost, nonzero_cost, step_list, sums};
