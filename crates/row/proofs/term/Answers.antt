@@ -34,7 +34,7 @@ pub overflow_mul-v : goal.overflow_mul-v
 overflow_mul-v c =
     let s = c.loop-t in
     let k : ℕ = get_or c.args.m.now s.at 0 in
-    let l : k < 256 = omega (arith, c.shared_slice_known-1.given s.at) in
+    let l : k < 256 = omega (arith, c.type_inv.m s.at) in
     record { fits = subst⁻¹ (λ (n : ℕ). n * k < 256) (and_mask s.h 1) (bit (λ (n : ℕ). n * k < 256) (omega arith) (omega arith) (bit_lt s.h)) }
 
 pub overflow_add-at : goal.overflow_add-at
