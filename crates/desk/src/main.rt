@@ -1,6 +1,8 @@
 // desk: the counts of an order. Reads standard input, and prints the line that desk_line makes of it.
-use libc::{STDIN_FILENO, STDOUT_FILENO};
+#![tactic(auto)]
 
-fn main() {
-    desk_line::serve(STDIN_FILENO, STDOUT_FILENO);
+use std::io;
+
+fn main(rt: HostRuntime) -> io::Result<()> {
+    desk_line::serve(&mut rt.stdin(), &mut rt.stdout())
 }

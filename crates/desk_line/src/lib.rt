@@ -1,6 +1,8 @@
 // The line that desk prints, made from the bytes that it read, and how desk reads and prints. Stands on solver, for the counts, and on io, for
-// the digits, reading and writing.
-ghost use Rattle.std.specs.Prelude.{[], ◌∷◌, ◌++◌, ◌≡◌, ◌+◌, ◌≤◌, length};
+// the digits.
+#![tactic(auto)]
+
+ghost use Rattle.std.specs.Prelude.{[], ◌∷◌, ◌++◌, ◌≡◌, ◌+◌, ◌≤◌, length, IfOk};
 ghost use Rattle.io.specs.Counts.{IsPrefixLen as Counts·within};
 ghost use Rattle.verdict.specs.Refusals.{paper};
 ghost use Rattle.desk_line.specs.Text.{decimal};
@@ -8,6 +10,7 @@ ghost use Rattle.desk_line.specs.Line.{refused_line, counts_line, desk_line, Wro
 
 use course::Counts;
 use solver::Counting;
+use std::io::{Read, Write};
 use verdict::Refusal;
 
 // Puts a text at a place of out, and answers the place behind it.
@@ -84,13 +87,28 @@ pub fn line(input: &[u8], out: &mut [u8; 64]) -> usize
     }
 }
 
-// All that desk does: reads an order from one descriptor and prints its line to another. No contract can say what is read or written, so
-// desk_run runs this function on prepared orders.
-pub fn serve(from: i32, to: i32) {
+// Reads until input is full or the reader has come to its end, and answers how many bytes it put at the start of input. Each read but the last
+// of these gives a byte at least.
+fn read_front(from: &mut impl Read, input: &mut [u8; 5]) -> std::io::Result<usize>
+    ensures { IfOk result (λ n. n ≤ 5) }
+{
+    let mut n = 0;
+    while n < 5 {
+        let more = from.read(&mut input[n..])?;
+        if more == 0 {
+            break;
+        }
+        n += more;
+    }
+    Ok(n)
+}
+
+// All that desk does: reads an order from a reader and prints its line to a writer. desk_run runs this function on prepared orders.
+pub fn serve(from: &mut impl Read, to: &mut impl Write) -> std::io::Result<()> {
     // a fifth byte is tried for, so that input longer than four bytes is told from four
     let mut input = [0u8; 5];
-    let n = io::read_full(from, &mut input);
+    let n = read_front(from, &mut input)?;
     let mut out = [0u8; 64];
     let k = line(&input[..n], &mut out);
-    io::write_all(to, &out[..k]);
+    to.write_all(&out[..k])
 }

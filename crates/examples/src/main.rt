@@ -2,12 +2,15 @@
 // 01's mask draws at three and four shares, 35 and 3,778,608: they are 37 and 3,820,512 here. R-7 overrules 01's steps of full solves of two and of
 // 96 equations, 8 and 9,408: they are 9 and 9,503 here.
 // Stands on solver, and on show to print. Bytes are printed in hex, other numbers in decimal.
+#![tactic(auto)]
+
 use show::{COUNTS, FILLED, REFUSED, SOLVED, STOPPED, Words};
 use solver::{Filling, Solving};
+use std::io;
 use verdict::Refusal;
 
 // How many examples ran, and how many of them differed.
-#[derive(Drop)]
+#[derive(Clone, Copy)]
 struct Tally {
     run: u64,
     differ: u64,
@@ -31,45 +34,52 @@ fn one_more(n: u64) -> u64 {
 }
 
 // Ends an example's line, and counts it.
-fn end(t: Tally, good: bool) -> Tally {
+fn end(out: &impl Print, t: Tally, good: bool) -> io::Result<Tally> {
     if good {
-        show::text(b"; ok\n");
-        Tally {
+        show::text(out, "; ok\n")?;
+        Ok(Tally {
             run: one_more(t.run),
             differ: t.differ,
-        }
+        })
     } else {
-        show::text(b"; DIFFERS\n");
-        Tally {
+        show::text(out, "; DIFFERS\n")?;
+        Ok(Tally {
             run: one_more(t.run),
             differ: one_more(t.differ),
-        }
+        })
     }
 }
 
 // An example whose outcome is an answer.
-fn compare(t: Tally, name: &[u8], want: Words, came: Words) -> Tally {
-    show::text(name);
-    show::text(b": wanted ");
-    show::say(want);
-    show::text(b"; came ");
-    show::say(came);
-    end(t, show::same(want, came))
+fn compare(out: &impl Print, t: Tally, name: &str, want: Words, came: Words) -> io::Result<Tally> {
+    show::text(out, name)?;
+    show::text(out, ": wanted ")?;
+    show::say(out, want)?;
+    show::text(out, "; came ")?;
+    show::say(out, came)?;
+    end(out, t, show::same(want, came))
 }
 
 // The rest of an example whose outcome is an answer and bytes, which begin y.
-fn compare_bytes(t: Tally, want: Words, x: &[u8], came: Words, y: &[u8]) -> Tally {
+fn compare_bytes(
+    out: &impl Print,
+    t: Tally,
+    want: Words,
+    x: &[u8],
+    came: Words,
+    y: &[u8],
+) -> io::Result<Tally> {
     let k = x.len();
     if y.len() < k {
-        return end(t, false);
+        return end(out, t, false);
     }
-    show::text(b": wanted ");
-    show::say(want);
-    show::bytes(b" with", x);
-    show::text(b"; came ");
-    show::say(came);
-    show::bytes(b" with", &y[0..k]);
-    end(t, show::same(want, came) && show::alike(x, &y[0..k]))
+    show::text(out, ": wanted ")?;
+    show::say(out, want)?;
+    show::bytes(out, " with", x)?;
+    show::text(out, "; came ")?;
+    show::say(out, came)?;
+    show::bytes(out, " with", &y[0..k])?;
+    end(out, t, show::same(want, came) && show::alike(x, &y[0..k]))
 }
 
 // Deals the values, and solves: the first 18 draws are for deal, the others for solve.
@@ -104,19 +114,20 @@ fn tried(field: u64, shares: u64, size: usize, values: &[u8], x: &mut [u8]) -> S
 
 // A system with the answer and the solution that are wanted; where it stops, the solution becomes 0.
 fn system(
+    out: &impl Print,
     t: Tally,
-    name: &[u8],
+    name: &str,
     field: u64,
     shares: u64,
     values: &[u8],
     want: Words,
     x: &[u8],
-) -> Tally {
+) -> io::Result<Tally> {
     let mut y = [0xeeu8; 2];
     let a = tried(field, shares, x.len(), values, &mut y);
-    show::text(name);
-    show::number(b", n=", shares);
-    compare_bytes(t, want, x, show::verdict(a), &y)
+    show::text(out, name)?;
+    show::number(out, ", n=", shares)?;
+    compare_bytes(out, t, want, x, show::verdict(a), &y)
 }
 
 // Solved with x, or stopped at a column.
@@ -137,180 +148,282 @@ fn counts(steps: u64, mask: u64, nonzero: u64) -> Words {
 }
 
 // A product a*x = b, as the system [a]x = [b].
-fn product(t: Tally, name: &[u8], field: u64, a: u8, x: u8, b: u8) -> Tally {
-    system(t, name, field, 2, &[a, b], solved(), &[x])
+fn product(
+    out: &impl Print,
+    t: Tally,
+    name: &str,
+    field: u64,
+    a: u8,
+    x: u8,
+    b: u8,
+) -> io::Result<Tally> {
+    system(out, t, name, field, 2, &[a, b], solved(), &[x])
 }
 
-fn products(t: Tally) -> Tally {
-    let t = product(t, b"6*7=1 as [6]x=[1]", 16, 6, 7, 1);
-    let t = product(t, b"F256 57*83=c1 as [57]x=[c1]", 256, 0x57, 0x83, 0xc1);
-    let t = product(t, b"F256 57*13=fe as [57]x=[fe]", 256, 0x57, 0x13, 0xfe);
-    let t = product(t, b"F256 57*02=ae as [57]x=[ae]", 256, 0x57, 0x02, 0xae);
-    let t = product(t, b"F256 57*04=47 as [57]x=[47]", 256, 0x57, 0x04, 0x47);
-    let t = product(t, b"F256 57*08=8e as [57]x=[8e]", 256, 0x57, 0x08, 0x8e);
-    product(t, b"F256 57*10=07 as [57]x=[07]", 256, 0x57, 0x10, 0x07)
+fn products(out: &impl Print, t: Tally) -> io::Result<Tally> {
+    let t = product(out, t, "6*7=1 as [6]x=[1]", 16, 6, 7, 1)?;
+    let t = product(out, t, "F256 57*83=c1 as [57]x=[c1]", 256, 0x57, 0x83, 0xc1)?;
+    let t = product(out, t, "F256 57*13=fe as [57]x=[fe]", 256, 0x57, 0x13, 0xfe)?;
+    let t = product(out, t, "F256 57*02=ae as [57]x=[ae]", 256, 0x57, 0x02, 0xae)?;
+    let t = product(out, t, "F256 57*04=47 as [57]x=[47]", 256, 0x57, 0x04, 0x47)?;
+    let t = product(out, t, "F256 57*08=8e as [57]x=[8e]", 256, 0x57, 0x08, 0x8e)?;
+    product(out, t, "F256 57*10=07 as [57]x=[07]", 256, 0x57, 0x10, 0x07)
 }
 
 // FIPS 197's sum, as the value of a sharing.
-fn sum(t: Tally) -> Tally {
+fn sum(out: &impl Print, t: Tally) -> io::Result<Tally> {
     let mut values = [0xeeu8; 2];
     let f = solver::gather(256, 2, 1, &[0x57, 0x83, 0x01, 0x02], &mut values);
-    show::text(b"F256 57+83=d4 (and 01+02=03) as a gather, n=2");
+    show::text(out, "F256 57+83=d4 (and 01+02=03) as a gather, n=2")?;
     let want = show::tell(FILLED, 0, 0, 0);
-    compare_bytes(t, want, &[0xd4, 0x03], show::of_filling(f), &values)
+    compare_bytes(out, t, want, &[0xd4, 0x03], show::of_filling(f), &values)
 }
 
-fn systems(t: Tally, n: u64) -> Tally {
-    let t = system(t, b"[2]x=[3]", 16, n, &[2, 3], solved(), &[8]);
-    let t = system(t, b"[0]x=[0]", 16, n, &[0, 0], stopped(1), &[0]);
-    let t = system(t, b"[0]x=[3]", 16, n, &[0, 3], stopped(1), &[0]);
-    let name = b"rows (0,1),(1,0), b=(5,7)";
-    let t = system(t, name, 16, n, &[0, 1, 5, 1, 0, 7], solved(), &[7, 5]);
-    let name = b"rows (1,2),(2,4), b=(1,2)";
-    let t = system(t, name, 16, n, &[1, 2, 1, 2, 4, 2], stopped(2), &[0, 0]);
-    let name = b"rows (0,1),(0,3), b=(1,2)";
-    let t = system(t, name, 16, n, &[0, 1, 1, 0, 3, 2], stopped(1), &[0, 0]);
-    let name = b"rows (2,1),(1,1), b=(1,0)";
-    system(t, name, 16, n, &[2, 1, 1, 1, 1, 0], solved(), &[14, 14])
+fn systems(out: &impl Print, t: Tally, n: u64) -> io::Result<Tally> {
+    let t = system(out, t, "[2]x=[3]", 16, n, &[2, 3], solved(), &[8])?;
+    let t = system(out, t, "[0]x=[0]", 16, n, &[0, 0], stopped(1), &[0])?;
+    let t = system(out, t, "[0]x=[3]", 16, n, &[0, 3], stopped(1), &[0])?;
+    let name = "rows (0,1),(1,0), b=(5,7)";
+    let t = system(out, t, name, 16, n, &[0, 1, 5, 1, 0, 7], solved(), &[7, 5])?;
+    let name = "rows (1,2),(2,4), b=(1,2)";
+    let t = system(
+        out,
+        t,
+        name,
+        16,
+        n,
+        &[1, 2, 1, 2, 4, 2],
+        stopped(2),
+        &[0, 0],
+    )?;
+    let name = "rows (0,1),(0,3), b=(1,2)";
+    let t = system(
+        out,
+        t,
+        name,
+        16,
+        n,
+        &[0, 1, 1, 0, 3, 2],
+        stopped(1),
+        &[0, 0],
+    )?;
+    let name = "rows (2,1),(1,1), b=(1,0)";
+    system(
+        out,
+        t,
+        name,
+        16,
+        n,
+        &[2, 1, 1, 1, 1, 0],
+        solved(),
+        &[14, 14],
+    )
 }
 
 // The counts that a run reports.
 fn counted_run(
+    out: &impl Print,
     t: Tally,
-    name: &[u8],
+    name: &str,
     field: u64,
     shares: u64,
     size: usize,
     values: &[u8],
     want: Words,
-) -> Tally {
+) -> io::Result<Tally> {
     let mut x = [0xeeu8; 2];
     let a = tried(field, shares, size, values, &mut x);
-    compare(t, name, want, show::taken(a))
+    compare(out, t, name, want, show::taken(a))
 }
 
 // The counts that the call counts gives.
-fn counted(t: Tally, name: &[u8], field: u64, shares: u64, size: u64, want: Words) -> Tally {
+fn counted(
+    out: &impl Print,
+    t: Tally,
+    name: &str,
+    field: u64,
+    shares: u64,
+    size: u64,
+    want: Words,
+) -> io::Result<Tally> {
     let c = solver::counts(field, shares, size);
-    compare(t, name, want, show::of_counting(c))
+    compare(out, t, name, want, show::of_counting(c))
 }
 
-fn counts_of_runs(t: Tally) -> Tally {
-    let name = b"counts of a run, n=2 m=1";
-    let t = counted_run(t, name, 16, 2, 1, &[2, 3], counts(3, 12, 1));
+fn counts_of_runs(out: &impl Print, t: Tally) -> io::Result<Tally> {
+    let name = "counts of a run, n=2 m=1";
+    let t = counted_run(out, t, name, 16, 2, 1, &[2, 3], counts(3, 12, 1))?;
     let v = [2, 1, 1, 1, 1, 0];
     let t = counted_run(
+        out,
         t,
-        b"counts of a run, n=2 m=2",
+        "counts of a run, n=2 m=2",
         16,
         2,
         2,
         &v,
         counts(9, 36, 2),
-    );
-    let name = b"counts of a run, n=2 m=2, stopped at 2";
-    let t = counted_run(t, name, 16, 2, 2, &[1, 2, 1, 2, 4, 2], counts(5, 28, 1));
-    let name = b"counts of a run, n=2 m=2, stopped at 1";
-    let t = counted_run(t, name, 16, 2, 2, &[0, 1, 1, 0, 3, 2], counts(2, 12, 0));
-    let name = b"counts of a run, n=3 m=1";
-    let t = counted_run(t, name, 16, 3, 1, &[2, 3], counts(3, 37, 2));
-    let name = b"counts of a run, F256 n=2 m=1";
-    counted_run(t, name, 256, 2, 1, &[2, 3], counts(3, 14, 1))
+    )?;
+    let name = "counts of a run, n=2 m=2, stopped at 2";
+    let t = counted_run(
+        out,
+        t,
+        name,
+        16,
+        2,
+        2,
+        &[1, 2, 1, 2, 4, 2],
+        counts(5, 28, 1),
+    )?;
+    let name = "counts of a run, n=2 m=2, stopped at 1";
+    let t = counted_run(
+        out,
+        t,
+        name,
+        16,
+        2,
+        2,
+        &[0, 1, 1, 0, 3, 2],
+        counts(2, 12, 0),
+    )?;
+    let name = "counts of a run, n=3 m=1";
+    let t = counted_run(out, t, name, 16, 3, 1, &[2, 3], counts(3, 37, 2))?;
+    let name = "counts of a run, F256 n=2 m=1";
+    counted_run(out, t, name, 256, 2, 1, &[2, 3], counts(3, 14, 1))
 }
 
 // Those of R-6, which moves the flag's draws at three and four shares.
-fn counts_by_pairs(t: Tally) -> Tally {
-    let name = b"counts of a run, n=3 m=2";
-    let t = counted_run(t, name, 16, 3, 2, &[2, 1, 1, 1, 1, 0], counts(9, 110, 4));
-    let name = b"counts of a run, n=3 m=2, stopped at 1";
-    let t = counted_run(t, name, 16, 3, 2, &[0, 1, 1, 0, 3, 2], counts(2, 36, 0));
-    let name = b"counts of a run, n=3 m=2, stopped at 2";
-    let t = counted_run(t, name, 16, 3, 2, &[1, 2, 1, 2, 4, 2], counts(5, 85, 2));
-    let name = b"counts of a run, F256 n=3 m=1";
-    let t = counted_run(t, name, 256, 3, 1, &[2, 3], counts(3, 43, 2));
-    let name = b"counts of a run, n=4 m=1";
-    let t = counted_run(t, name, 16, 4, 1, &[2, 3], counts(3, 75, 3));
-    let name = b"counts of a run, F256 n=4 m=1";
-    counted_run(t, name, 256, 4, 1, &[2, 3], counts(3, 87, 3))
+fn counts_by_pairs(out: &impl Print, t: Tally) -> io::Result<Tally> {
+    let name = "counts of a run, n=3 m=2";
+    let t = counted_run(
+        out,
+        t,
+        name,
+        16,
+        3,
+        2,
+        &[2, 1, 1, 1, 1, 0],
+        counts(9, 110, 4),
+    )?;
+    let name = "counts of a run, n=3 m=2, stopped at 1";
+    let t = counted_run(
+        out,
+        t,
+        name,
+        16,
+        3,
+        2,
+        &[0, 1, 1, 0, 3, 2],
+        counts(2, 36, 0),
+    )?;
+    let name = "counts of a run, n=3 m=2, stopped at 2";
+    let t = counted_run(
+        out,
+        t,
+        name,
+        16,
+        3,
+        2,
+        &[1, 2, 1, 2, 4, 2],
+        counts(5, 85, 2),
+    )?;
+    let name = "counts of a run, F256 n=3 m=1";
+    let t = counted_run(out, t, name, 256, 3, 1, &[2, 3], counts(3, 43, 2))?;
+    let name = "counts of a run, n=4 m=1";
+    let t = counted_run(out, t, name, 16, 4, 1, &[2, 3], counts(3, 75, 3))?;
+    let name = "counts of a run, F256 n=4 m=1";
+    counted_run(out, t, name, 256, 4, 1, &[2, 3], counts(3, 87, 3))
 }
 
-fn counts_of_orders(t: Tally) -> Tally {
+fn counts_of_orders(out: &impl Print, t: Tally) -> io::Result<Tally> {
     let t = counted(
+        out,
         t,
-        b"counts of an order, n=2 m=1",
+        "counts of an order, n=2 m=1",
         16,
         2,
         1,
         counts(3, 12, 1),
-    );
+    )?;
     let t = counted(
+        out,
         t,
-        b"counts of an order, n=2 m=2",
+        "counts of an order, n=2 m=2",
         16,
         2,
         2,
         counts(9, 36, 2),
-    );
+    )?;
     let t = counted(
+        out,
         t,
-        b"counts of an order, n=3 m=1",
+        "counts of an order, n=3 m=1",
         16,
         3,
         1,
         counts(3, 37, 2),
-    );
-    let name = b"counts of an order, F256 n=2 m=1";
-    let t = counted(t, name, 256, 2, 1, counts(3, 14, 1));
-    let name = b"counts of an order, F256 n=4 m=96";
-    counted(t, name, 256, 4, 96, counts(9503, 3820512, 288))
+    )?;
+    let name = "counts of an order, F256 n=2 m=1";
+    let t = counted(out, t, name, 256, 2, 1, counts(3, 14, 1))?;
+    let name = "counts of an order, F256 n=4 m=96";
+    counted(out, t, name, 256, 4, 96, counts(9503, 3820512, 288))
 }
 
-fn started(t: Tally, name: &[u8], field: u64, shares: u64, size: u64, want: Words) -> Tally {
+fn started(
+    out: &impl Print,
+    t: Tally,
+    name: &str,
+    field: u64,
+    shares: u64,
+    size: u64,
+    want: Words,
+) -> io::Result<Tally> {
     let s = solver::start(field, shares, size);
-    compare(t, name, want, show::of_start(s))
+    compare(out, t, name, want, show::of_start(s))
 }
 
-fn edges_of_sizes(t: Tally) -> Tally {
-    let t = started(t, b"shares 1", 16, 1, 1, refused(2, 1));
-    let t = started(t, b"shares 5", 16, 5, 1, refused(2, 5));
-    let t = started(t, b"size 97", 16, 2, 97, refused(3, 97));
-    started(t, b"field 7 and shares 0", 7, 0, 1, refused(1, 7))
+fn edges_of_sizes(out: &impl Print, t: Tally) -> io::Result<Tally> {
+    let t = started(out, t, "shares 1", 16, 1, 1, refused(2, 1))?;
+    let t = started(out, t, "shares 5", 16, 5, 1, refused(2, 5))?;
+    let t = started(out, t, "size 97", 16, 2, 97, refused(3, 97))?;
+    started(out, t, "field 7 and shares 0", 7, 0, 1, refused(1, 7))
 }
 
 // [2]x=[3] in two shares, solved with a mask tape.
-fn masked(t: Tally, name: &[u8], mask: &[u8], want: Words) -> Tally {
+fn masked(out: &impl Print, t: Tally, name: &str, mask: &[u8], want: Words) -> io::Result<Tally> {
     let mut table = [4u8, 6, 10, 9];
     let mut x = [0xeeu8; 1];
     let a = solver::solve(16, 2, 1, &mut table, &mut x, mask, &[0xba]);
-    compare(t, name, want, show::verdict(a))
+    compare(out, t, name, want, show::verdict(a))
 }
 
-fn edges_of_tapes(t: Tally) -> Tally {
+fn edges_of_tapes(out: &impl Print, t: Tally) -> io::Result<Tally> {
     let mut tape = [0u8; 13];
     fill(&mut tape);
     let t = masked(
+        out,
         t,
-        b"m=1 n=2 with 11 mask bytes",
+        "m=1 n=2 with 11 mask bytes",
         &tape[0..11],
         refused(7, 12),
-    );
-    let t = masked(t, b"m=1 n=2 with 12 mask bytes", &tape[0..12], solved());
-    masked(t, b"m=1 n=2 with 13 mask bytes", &tape[0..13], solved())
+    )?;
+    let t = masked(out, t, "m=1 n=2 with 12 mask bytes", &tape[0..12], solved())?;
+    masked(out, t, "m=1 n=2 with 13 mask bytes", &tape[0..13], solved())
 }
 
-fn main() {
+fn main(rt: HostRuntime) -> io::Result<()> {
     let t = Tally { run: 0, differ: 0 };
-    let t = products(t);
-    let t = sum(t);
-    let t = systems(t, 2);
-    let t = systems(t, 3);
-    let t = systems(t, 4);
-    let t = counts_of_runs(t);
-    let t = counts_by_pairs(t);
-    let t = counts_of_orders(t);
-    let t = edges_of_sizes(t);
-    let t = edges_of_tapes(t);
-    show::number(b"", t.run);
-    show::number(b" examples, ", t.differ);
-    show::text(b" differ\n");
+    let t = products(&rt, t)?;
+    let t = sum(&rt, t)?;
+    let t = systems(&rt, t, 2)?;
+    let t = systems(&rt, t, 3)?;
+    let t = systems(&rt, t, 4)?;
+    let t = counts_of_runs(&rt, t)?;
+    let t = counts_by_pairs(&rt, t)?;
+    let t = counts_of_orders(&rt, t)?;
+    let t = edges_of_sizes(&rt, t)?;
+    let t = edges_of_tapes(&rt, t)?;
+    show::number(&rt, "", t.run)?;
+    show::number(&rt, " examples, ", t.differ)?;
+    show::text(&rt, " differ\n")
 }

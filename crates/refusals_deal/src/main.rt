@@ -2,41 +2,51 @@
 // together, and prints each call, its answer, and what was lent before and after. Stands on solver, and on show to print.
 // Bytes are printed in hex after their buffer's length, other numbers in decimal.
 // The lists of calls are short: what a check of a function costs grows faster than its length.
+#![tactic(auto)]
+
 use course::Order;
 use show::call::order;
 use solver::{Filling, Starting};
+use std::io;
 
-fn start(words: &[u8], o: Order) {
-    show::call::begin(b"start", words);
-    show::call::of_order(o);
+fn start(out: &impl Print, words: &str, o: Order) -> io::Result<()> {
+    show::call::begin(out, "start", words)?;
+    show::call::of_order(out, o)?;
     match solver::start(o.field, o.shares, o.size) {
         Starting::Fresh(p) => {
-            show::text(b"fresh ");
-            show::record(p);
+            show::text(out, "fresh ")?;
+            show::record(out, p)?;
         }
-        Starting::Refused(r) => show::say(show::of_refusal(r)),
+        Starting::Refused(r) => show::say(out, show::of_refusal(r))?,
     }
-    show::text(b"\n");
+    show::text(out, "\n")
 }
 
-fn counts(words: &[u8], o: Order) {
-    show::call::begin(b"counts", words);
-    show::call::of_order(o);
+fn counts(out: &impl Print, words: &str, o: Order) -> io::Result<()> {
+    show::call::begin(out, "counts", words)?;
+    show::call::of_order(out, o)?;
     let a = solver::counts(o.field, o.shares, o.size);
-    show::say(show::of_counting(a));
-    show::text(b"\n");
+    show::say(out, show::of_counting(a))?;
+    show::text(out, "\n")
 }
 
-fn show_deal(values: &[u8], table: &[u8], mask: &[u8]) {
-    show::buffer(b"values ", values);
-    show::buffer(b"table ", table);
-    show::buffer(b"mask ", mask);
+fn show_deal(out: &impl Print, values: &[u8], table: &[u8], mask: &[u8]) -> io::Result<()> {
+    show::buffer(out, "values ", values)?;
+    show::buffer(out, "table ", table)?;
+    show::buffer(out, "mask ", mask)
 }
 
-fn begin_deal(words: &[u8], o: Order, values: &[u8], table: &[u8], mask: &[u8]) {
-    show::call::begin(b"deal", words);
-    show_deal(values, table, mask);
-    show::call::of_order(o);
+fn begin_deal(
+    out: &impl Print,
+    words: &str,
+    o: Order,
+    values: &[u8],
+    table: &[u8],
+    mask: &[u8],
+) -> io::Result<()> {
+    show::call::begin(out, "deal", words)?;
+    show_deal(out, values, table, mask)?;
+    show::call::of_order(out, o)
 }
 
 // Lends a copy of the table.
@@ -46,38 +56,57 @@ fn deal_in(o: Order, values: &[u8], table: &[u8], mask: &[u8], t: &mut [u8]) -> 
 }
 
 // The copy begins t.
-fn end_deal(values: &[u8], table: &[u8], mask: &[u8], t: &[u8; 16]) {
+fn end_deal(
+    out: &impl Print,
+    values: &[u8],
+    table: &[u8],
+    mask: &[u8],
+    t: &[u8; 16],
+) -> io::Result<()> {
     let u = &t[..];
     let k = table.len();
     if u.len() < k {
-        return show::call::too_long();
+        return show::call::too_long(out);
     }
-    show::call::after();
-    show_deal(values, &u[0..k], mask);
-    show::call::end(show::alike(table, &u[0..k]));
+    show::call::after(out)?;
+    show_deal(out, values, &u[0..k], mask)?;
+    show::call::end(out, show::alike(table, &u[0..k]))
 }
 
-fn deal(words: &[u8], o: Order, values: &[u8], table: &[u8], mask: &[u8]) {
+fn deal(
+    out: &impl Print,
+    words: &str,
+    o: Order,
+    values: &[u8],
+    table: &[u8],
+    mask: &[u8],
+) -> io::Result<()> {
     let mut t = [0u8; 16];
     let k = table.len();
     if 16 < k {
-        return show::call::too_long();
+        return show::call::too_long(out);
     }
-    begin_deal(words, o, values, table, mask);
+    begin_deal(out, words, o, values, table, mask)?;
     let a = deal_in(o, values, table, mask, &mut t[0..k]);
-    show::say(show::of_filling(a));
-    end_deal(values, table, mask, &t);
+    show::say(out, show::of_filling(a))?;
+    end_deal(out, values, table, mask, &t)
 }
 
-fn show_gather(table: &[u8], values: &[u8]) {
-    show::buffer(b"table ", table);
-    show::buffer(b"values ", values);
+fn show_gather(out: &impl Print, table: &[u8], values: &[u8]) -> io::Result<()> {
+    show::buffer(out, "table ", table)?;
+    show::buffer(out, "values ", values)
 }
 
-fn begin_gather(words: &[u8], o: Order, table: &[u8], values: &[u8]) {
-    show::call::begin(b"gather", words);
-    show_gather(table, values);
-    show::call::of_order(o);
+fn begin_gather(
+    out: &impl Print,
+    words: &str,
+    o: Order,
+    table: &[u8],
+    values: &[u8],
+) -> io::Result<()> {
+    show::call::begin(out, "gather", words)?;
+    show_gather(out, table, values)?;
+    show::call::of_order(out, o)
 }
 
 fn gather_in(o: Order, table: &[u8], values: &[u8], v: &mut [u8]) -> Filling {
@@ -85,181 +114,185 @@ fn gather_in(o: Order, table: &[u8], values: &[u8], v: &mut [u8]) -> Filling {
     solver::gather(o.field, o.shares, o.size, table, v)
 }
 
-fn end_gather(table: &[u8], values: &[u8], v: &[u8; 8]) {
+fn end_gather(out: &impl Print, table: &[u8], values: &[u8], v: &[u8; 8]) -> io::Result<()> {
     let u = &v[..];
     let k = values.len();
     if u.len() < k {
-        return show::call::too_long();
+        return show::call::too_long(out);
     }
-    show::call::after();
-    show_gather(table, &u[0..k]);
-    show::call::end(show::alike(values, &u[0..k]));
+    show::call::after(out)?;
+    show_gather(out, table, &u[0..k])?;
+    show::call::end(out, show::alike(values, &u[0..k]))
 }
 
-fn gather(words: &[u8], o: Order, table: &[u8], values: &[u8]) {
+fn gather(out: &impl Print, words: &str, o: Order, table: &[u8], values: &[u8]) -> io::Result<()> {
     let mut v = [0u8; 8];
     let k = values.len();
     if 8 < k {
-        return show::call::too_long();
+        return show::call::too_long(out);
     }
-    begin_gather(words, o, table, values);
+    begin_gather(out, words, o, table, values)?;
     let a = gather_in(o, table, values, &mut v[0..k]);
-    show::say(show::of_filling(a));
-    end_gather(table, values, &v);
+    show::say(out, show::of_filling(a))?;
+    end_gather(out, table, values, &v)
 }
 
-fn starts_refused() {
-    start(b"field 7", order(7, 2, 1));
+fn starts_refused(out: &impl Print) -> io::Result<()> {
+    start(out, "field 7", order(7, 2, 1))?;
     start(
-        b"field 65552, which is 16 in its last 16 bits",
+        out,
+        "field 65552, which is 16 in its last 16 bits",
         order(65552, 2, 1),
-    );
+    )?;
     start(
-        b"field 7 and shares 0: the field goes first",
+        out,
+        "field 7 and shares 0: the field goes first",
         order(7, 0, 1),
-    );
-    start(b"shares 0, a blank box", order(16, 0, 1));
-    start(b"shares 1", order(16, 1, 1));
+    )?;
+    start(out, "shares 0, a blank box", order(16, 0, 1))?;
+    start(out, "shares 1", order(16, 1, 1))
 }
 
-fn starts() {
-    starts_refused();
+fn starts(out: &impl Print) -> io::Result<()> {
+    starts_refused(out)?;
     start(
-        b"shares 5 and size 97: the shares go first",
+        out,
+        "shares 5 and size 97: the shares go first",
         order(256, 5, 97),
-    );
-    start(b"size 0", order(16, 2, 0));
-    start(b"size 97", order(16, 2, 97));
-    start(b"one equation, accepted", order(16, 2, 1));
-    start(b"two equations, accepted", order(256, 4, 2));
+    )?;
+    start(out, "size 0", order(16, 2, 0))?;
+    start(out, "size 97", order(16, 2, 97))?;
+    start(out, "one equation, accepted", order(16, 2, 1))?;
+    start(out, "two equations, accepted", order(256, 4, 2))
 }
 
-fn countings() {
-    counts(b"field 7", order(7, 2, 1));
-    counts(b"field 65552", order(65552, 2, 1));
-    counts(b"field 7 and shares 0", order(7, 0, 1));
-    counts(b"shares 0", order(16, 0, 1));
-    counts(b"shares 5", order(16, 5, 1));
-    counts(b"size 0", order(16, 2, 0));
-    counts(b"size 2^64-1", order(16, 2, show::call::LARGEST));
-    counts(b"the largest order, accepted", order(256, 4, 96));
+fn countings(out: &impl Print) -> io::Result<()> {
+    counts(out, "field 7", order(7, 2, 1))?;
+    counts(out, "field 65552", order(65552, 2, 1))?;
+    counts(out, "field 7 and shares 0", order(7, 0, 1))?;
+    counts(out, "shares 0", order(16, 0, 1))?;
+    counts(out, "shares 5", order(16, 5, 1))?;
+    counts(out, "size 0", order(16, 2, 0))?;
+    counts(out, "size 2^64-1", order(16, 2, show::call::LARGEST))?;
+    counts(out, "the largest order, accepted", order(256, 4, 96))
 }
 
 // A value list that is good for one equation in two shares, and its target and tape.
-fn deal_of(words: &[u8], o: Order) {
-    deal(words, o, &[2, 3], &[0xee; 4], &[0xd6, 0x59]);
+fn deal_of(out: &impl Print, words: &str, o: Order) -> io::Result<()> {
+    deal(out, words, o, &[2, 3], &[0xee; 4], &[0xd6, 0x59])
 }
 
-fn deals_of_sizes() {
-    deal_of(b"field 7 and shares 0", order(7, 0, 1));
-    deal_of(b"shares 5", order(16, 5, 1));
-    deal_of(b"size 97", order(16, 2, 97));
+fn deals_of_sizes(out: &impl Print) -> io::Result<()> {
+    deal_of(out, "field 7 and shares 0", order(7, 0, 1))?;
+    deal_of(out, "shares 5", order(16, 5, 1))?;
+    deal_of(out, "size 97", order(16, 2, 97))
 }
 
 // One equation in two shares over F16, with its tape.
-fn deal_one(words: &[u8], values: &[u8], table: &[u8]) {
-    deal(words, order(16, 2, 1), values, table, &[0xd6, 0x59]);
+fn deal_one(out: &impl Print, words: &str, values: &[u8], table: &[u8]) -> io::Result<()> {
+    deal(out, words, order(16, 2, 1), values, table, &[0xd6, 0x59])
 }
 
-fn deals_of_lengths() {
-    let words = b"three values where two are wanted";
-    deal_one(words, &[2, 3, 4], &[0xee; 4]);
-    let words = b"one value, and a target of 3 bytes: the values go first";
-    deal_one(words, &[2], &[0xee; 3]);
-    let words = b"a target of 3 bytes, and a large value";
-    deal_one(words, &[2, 0x10], &[0xee; 3]);
-    deal_one(b"a value of 16", &[2, 0x10], &[0xee; 4]);
+fn deals_of_lengths(out: &impl Print) -> io::Result<()> {
+    let words = "three values where two are wanted";
+    deal_one(out, words, &[2, 3, 4], &[0xee; 4])?;
+    let words = "one value, and a target of 3 bytes: the values go first";
+    deal_one(out, words, &[2], &[0xee; 3])?;
+    let words = "a target of 3 bytes, and a large value";
+    deal_one(out, words, &[2, 0x10], &[0xee; 3])?;
+    deal_one(out, "a value of 16", &[2, 0x10], &[0xee; 4])
 }
 
 // The same with its target, and a tape to choose.
-fn deal_with(words: &[u8], values: &[u8], mask: &[u8]) {
-    deal(words, order(16, 2, 1), values, &[0xee; 4], mask);
+fn deal_with(out: &impl Print, words: &str, values: &[u8], mask: &[u8]) -> io::Result<()> {
+    deal(out, words, order(16, 2, 1), values, &[0xee; 4], mask)
 }
 
-fn deals_of_draws() {
-    let words = b"both values large, and no mask byte: the first value";
-    deal_with(words, &[0xff, 0x10], &[]);
-    let words = b"one mask byte where two are wanted";
-    deal_with(words, &[2, 3], &[0xd6]);
+fn deals_of_draws(out: &impl Print) -> io::Result<()> {
+    let words = "both values large, and no mask byte: the first value";
+    deal_with(out, words, &[0xff, 0x10], &[])?;
+    let words = "one mask byte where two are wanted";
+    deal_with(out, words, &[2, 3], &[0xd6])
 }
 
 // Two equations in two shares over F16, and a tape that is short: 6 goes before 7.
-fn deal_two(words: &[u8], values: &[u8]) {
-    deal(words, order(16, 2, 2), values, &[0xee; 12], &[0xd6]);
+fn deal_two(out: &impl Print, words: &str, values: &[u8]) -> io::Result<()> {
+    deal(out, words, order(16, 2, 2), values, &[0xee; 12], &[0xd6])
 }
 
-fn deals_of_two() {
-    let words = b"two equations, and the last value is 16";
-    deal_two(words, &[0, 1, 5, 1, 0, 0x10]);
-    let words = b"and the first value of row 2 is 255";
-    deal_two(words, &[0, 1, 5, 0xff, 0, 0x10]);
+fn deals_of_two(out: &impl Print) -> io::Result<()> {
+    let words = "two equations, and the last value is 16";
+    deal_two(out, words, &[0, 1, 5, 1, 0, 0x10])?;
+    let words = "and the first value of row 2 is 255";
+    deal_two(out, words, &[0, 1, 5, 0xff, 0, 0x10])
 }
 
-fn deals_accepted() {
-    deal_of(b"accepted", order(16, 2, 1));
-    let words = b"a mask byte of 0x10, accepted";
-    deal_with(words, &[2, 3], &[0xd6, 0x10]);
-    let words = b"a longer tape, accepted";
-    deal_with(words, &[2, 3], &[0xd6, 0x59, 0]);
-    let words = b"large values in F256, accepted";
+fn deals_accepted(out: &impl Print) -> io::Result<()> {
+    deal_of(out, "accepted", order(16, 2, 1))?;
+    let words = "a mask byte of 0x10, accepted";
+    deal_with(out, words, &[2, 3], &[0xd6, 0x10])?;
+    let words = "a longer tape, accepted";
+    deal_with(out, words, &[2, 3], &[0xd6, 0x59, 0])?;
+    let words = "large values in F256, accepted";
     deal(
+        out,
         words,
         order(256, 2, 1),
         &[0x57, 0xc1],
         &[0xee; 4],
         &[0xd6, 0x10],
-    );
+    )
 }
 
-fn gather_of(words: &[u8], o: Order) {
-    gather(words, o, &show::call::TABLE, &show::call::BLANK);
+fn gather_of(out: &impl Print, words: &str, o: Order) -> io::Result<()> {
+    gather(out, words, o, &show::call::TABLE, &show::call::BLANK)
 }
 
-fn gathers_of_sizes() {
-    gather_of(b"field 65552", order(65552, 2, 1));
-    gather_of(b"shares 1", order(16, 1, 1));
-    gather_of(b"size 0", order(16, 2, 0));
+fn gathers_of_sizes(out: &impl Print) -> io::Result<()> {
+    gather_of(out, "field 65552", order(65552, 2, 1))?;
+    gather_of(out, "shares 1", order(16, 1, 1))?;
+    gather_of(out, "size 0", order(16, 2, 0))
 }
 
-fn gathers_of_lengths() {
+fn gathers_of_lengths(out: &impl Print) -> io::Result<()> {
     let o = order(16, 2, 1);
-    let words = b"a table of 3 bytes, and one place for values";
-    gather(words, o, &[4, 6, 10], &[0xee]);
-    let words = b"one place for values, and a large byte";
-    gather(words, o, &[4, 6, 0x10, 9], &[0xee]);
-    let words = b"a byte of 16 in the table";
-    gather(words, o, &[4, 6, 0x10, 9], &show::call::BLANK);
+    let words = "a table of 3 bytes, and one place for values";
+    gather(out, words, o, &[4, 6, 10], &[0xee])?;
+    let words = "one place for values, and a large byte";
+    gather(out, words, o, &[4, 6, 0x10, 9], &[0xee])?;
+    let words = "a byte of 16 in the table";
+    gather(out, words, o, &[4, 6, 0x10, 9], &show::call::BLANK)
 }
 
 // Two equations in two shares over F16, with places for their values.
-fn gather_two(words: &[u8], table: &[u8]) {
-    gather(words, order(16, 2, 2), table, &[0xee; 6]);
+fn gather_two(out: &impl Print, words: &str, table: &[u8]) -> io::Result<()> {
+    gather(out, words, order(16, 2, 2), table, &[0xee; 6])
 }
 
-fn gathers_of_two() {
-    let words = b"two equations, and the last byte is 16";
-    gather_two(words, &[4, 4, 4, 5, 10, 15, 3, 2, 10, 10, 15, 0x10]);
-    let words = b"and the second share of row 1, column 3 is 255";
-    gather_two(words, &[4, 4, 4, 5, 10, 0xff, 3, 2, 10, 10, 15, 0x10]);
+fn gathers_of_two(out: &impl Print) -> io::Result<()> {
+    let words = "two equations, and the last byte is 16";
+    gather_two(out, words, &[4, 4, 4, 5, 10, 15, 3, 2, 10, 10, 15, 0x10])?;
+    let words = "and the second share of row 1, column 3 is 255";
+    gather_two(out, words, &[4, 4, 4, 5, 10, 0xff, 3, 2, 10, 10, 15, 0x10])
 }
 
-fn gathers_accepted() {
+fn gathers_accepted(out: &impl Print) -> io::Result<()> {
     let o = order(256, 2, 1);
-    gather_of(b"accepted", order(16, 2, 1));
-    let words = b"bytes of 16 and more in F256, accepted";
-    gather(words, o, &[0x57, 0x83, 0x10, 9], &show::call::BLANK);
+    gather_of(out, "accepted", order(16, 2, 1))?;
+    let words = "bytes of 16 and more in F256, accepted";
+    gather(out, words, o, &[0x57, 0x83, 0x10, 9], &show::call::BLANK)
 }
 
-fn main() {
-    starts();
-    countings();
-    deals_of_sizes();
-    deals_of_lengths();
-    deals_of_draws();
-    deals_of_two();
-    deals_accepted();
-    gathers_of_sizes();
-    gathers_of_lengths();
-    gathers_of_two();
-    gathers_accepted();
+fn main(rt: HostRuntime) -> io::Result<()> {
+    starts(&rt)?;
+    countings(&rt)?;
+    deals_of_sizes(&rt)?;
+    deals_of_lengths(&rt)?;
+    deals_of_draws(&rt)?;
+    deals_of_two(&rt)?;
+    deals_accepted(&rt)?;
+    gathers_of_sizes(&rt)?;
+    gathers_of_lengths(&rt)?;
+    gathers_of_two(&rt)?;
+    gathers_accepted(&rt)
 }

@@ -2,31 +2,42 @@
 // its answer, and what was lent before and after. Stands on solver, and on show to print.
 // Bytes are printed in hex after their buffer's length, other numbers in decimal.
 // The lists of calls are short: what a check of a function costs grows faster than its length.
+#![tactic(auto)]
+
 use course::Order;
 use show::call::{BLANK, LARGEST, MASK, TABLE, ZERO_PIVOT, order};
 use solver::Solving;
+use std::io;
 
 // Rows (0,1),(0,3), b = (1,2), in two shares.
 const TWO_STOPS: [u8; 12] = [7, 7, 11, 10, 1, 0, 12, 12, 6, 5, 8, 10];
 
-fn say_counts(a: Solving) {
-    show::text(b", counts ");
-    show::say(show::taken(a));
+fn say_counts(out: &impl Print, a: Solving) -> io::Result<()> {
+    show::text(out, ", counts ")?;
+    show::say(out, show::taken(a))
 }
 
-fn say_solving(a: Solving) {
-    show::say(show::verdict(a));
+fn say_solving(out: &impl Print, a: Solving) -> io::Result<()> {
+    show::say(out, show::verdict(a))?;
     match a {
-        Solving::Solved(_) => say_counts(a),
-        Solving::Stopped(_, _) => say_counts(a),
-        Solving::Refused(_) => {}
+        Solving::Solved(_) => say_counts(out, a),
+        Solving::Stopped(_, _) => say_counts(out, a),
+        Solving::Refused(_) => Ok(()),
     }
 }
 
-fn begin_solve(words: &[u8], o: Order, table: &[u8], solution: &[u8], mask: &[u8], nonzero: &[u8]) {
-    show::call::begin(b"solve", words);
-    show::call::lent(table, solution, mask, nonzero);
-    show::call::of_order(o);
+fn begin_solve(
+    out: &impl Print,
+    words: &str,
+    o: Order,
+    table: &[u8],
+    solution: &[u8],
+    mask: &[u8],
+    nonzero: &[u8],
+) -> io::Result<()> {
+    show::call::begin(out, "solve", words)?;
+    show::call::lent(out, table, solution, mask, nonzero)?;
+    show::call::of_order(out, o)
 }
 
 // Lends copies of the table and the solution.
@@ -46,34 +57,46 @@ fn solve_in(
 
 // The copies begin t and x.
 fn end_solve(
+    out: &impl Print,
     table: &[u8],
     solution: &[u8],
     mask: &[u8],
     nonzero: &[u8],
     t: &[u8; 16],
     x: &[u8; 4],
-) {
+) -> io::Result<()> {
     let u = &t[..];
     let y = &x[..];
     let k = table.len();
     let m = solution.len();
     if u.len() < k || y.len() < m {
-        return show::call::too_long();
+        return show::call::too_long(out);
     }
-    show::call::after();
-    show::call::lent(&u[0..k], &y[0..m], mask, nonzero);
-    show::call::end(show::alike(table, &u[0..k]) && show::alike(solution, &y[0..m]));
+    show::call::after(out)?;
+    show::call::lent(out, &u[0..k], &y[0..m], mask, nonzero)?;
+    show::call::end(
+        out,
+        show::alike(table, &u[0..k]) && show::alike(solution, &y[0..m]),
+    )
 }
 
-fn solve(words: &[u8], o: Order, table: &[u8], solution: &[u8], mask: &[u8], nonzero: &[u8]) {
+fn solve(
+    out: &impl Print,
+    words: &str,
+    o: Order,
+    table: &[u8],
+    solution: &[u8],
+    mask: &[u8],
+    nonzero: &[u8],
+) -> io::Result<()> {
     let mut t = [0u8; 16];
     let mut x = [0u8; 4];
     let k = table.len();
     let m = solution.len();
     if 16 < k || 4 < m {
-        return show::call::too_long();
+        return show::call::too_long(out);
     }
-    begin_solve(words, o, table, solution, mask, nonzero);
+    begin_solve(out, words, o, table, solution, mask, nonzero)?;
     let a = solve_in(
         o,
         table,
@@ -83,141 +106,172 @@ fn solve(words: &[u8], o: Order, table: &[u8], solution: &[u8], mask: &[u8], non
         &mut t[0..k],
         &mut x[0..m],
     );
-    say_solving(a);
-    end_solve(table, solution, mask, nonzero, &t, &x);
+    say_solving(out, a)?;
+    end_solve(out, table, solution, mask, nonzero, &t, &x)
 }
 
 // A good table, solution and tapes.
-fn solve_of(words: &[u8], o: Order) {
+fn solve_of(out: &impl Print, words: &str, o: Order) -> io::Result<()> {
     let a = MASK;
-    solve(words, o, &TABLE, &[0xee], &a[..12], &[0xba]);
+    solve(out, words, o, &TABLE, &[0xee], &a[..12], &[0xba])
 }
 
-fn solves_of_sizes() {
-    solve_of(b"field 7", order(7, 2, 1));
-    solve_of(b"field 65552", order(65552, 2, 1));
-    solve_of(b"field 7 and shares 0", order(7, 0, 1));
-    solve_of(b"shares 0", order(16, 0, 1));
-    solve_of(b"shares 5 and size 97", order(16, 5, 97));
-    solve_of(b"size 97", order(16, 2, 97));
-    solve_of(b"size 2^64-1", order(16, 2, LARGEST));
+fn solves_of_sizes(out: &impl Print) -> io::Result<()> {
+    solve_of(out, "field 7", order(7, 2, 1))?;
+    solve_of(out, "field 65552", order(65552, 2, 1))?;
+    solve_of(out, "field 7 and shares 0", order(7, 0, 1))?;
+    solve_of(out, "shares 0", order(16, 0, 1))?;
+    solve_of(out, "shares 5 and size 97", order(16, 5, 97))?;
+    solve_of(out, "size 97", order(16, 2, 97))?;
+    solve_of(out, "size 2^64-1", order(16, 2, LARGEST))
 }
 
 // One equation in two shares over F16.
-fn solve_one(words: &[u8], table: &[u8], mask: &[u8], nonzero: &[u8]) {
-    solve(words, order(16, 2, 1), table, &[0xee], mask, nonzero);
+fn solve_one(
+    out: &impl Print,
+    words: &str,
+    table: &[u8],
+    mask: &[u8],
+    nonzero: &[u8],
+) -> io::Result<()> {
+    solve(out, words, order(16, 2, 1), table, &[0xee], mask, nonzero)
 }
 
 // The same with a solution that is too long, and good tapes.
-fn solve_blank(words: &[u8], table: &[u8]) {
+fn solve_blank(out: &impl Print, words: &str, table: &[u8]) -> io::Result<()> {
     let a = MASK;
-    solve(words, order(16, 2, 1), table, &BLANK, &a[..12], &[0xba]);
+    solve(
+        out,
+        words,
+        order(16, 2, 1),
+        table,
+        &BLANK,
+        &a[..12],
+        &[0xba],
+    )
 }
 
-fn solves_of_lengths() {
-    solve_blank(b"a table of 3 bytes, and a solution of 2", &[4, 6, 10]);
-    let words = b"a solution of 2 bytes, and a large byte";
-    solve_blank(words, &[4, 6, 10, 0x10]);
+fn solves_of_lengths(out: &impl Print) -> io::Result<()> {
+    solve_blank(out, "a table of 3 bytes, and a solution of 2", &[4, 6, 10])?;
+    let words = "a solution of 2 bytes, and a large byte";
+    solve_blank(out, words, &[4, 6, 10, 0x10])?;
     let a = MASK;
-    let words = b"two bytes of 16 and more, and short tapes";
-    solve_one(words, &[4, 6, 0x10, 0xff], &a[..11], &[]);
+    let words = "two bytes of 16 and more, and short tapes";
+    solve_one(out, words, &[4, 6, 0x10, 0xff], &a[..11], &[])
 }
 
-fn solves_of_tapes() {
+fn solves_of_tapes(out: &impl Print) -> io::Result<()> {
     let a = MASK;
-    let words = b"11 mask bytes where 12 are wanted";
-    solve_one(words, &TABLE, &a[..11], &[0xba]);
-    solve_one(b"no mask byte and no nonzero byte", &TABLE, &[], &[]);
-    let words = b"no nonzero byte where one is wanted";
-    solve_one(words, &TABLE, &a[..12], &[]);
+    let words = "11 mask bytes where 12 are wanted";
+    solve_one(out, words, &TABLE, &a[..11], &[0xba])?;
+    solve_one(out, "no mask byte and no nonzero byte", &TABLE, &[], &[])?;
+    let words = "no nonzero byte where one is wanted";
+    solve_one(out, words, &TABLE, &a[..12], &[])
 }
 
 // The same with short tapes, so that 6 goes before 7 and 8.
-fn solve_large(words: &[u8], table: &[u8]) {
-    solve_one(words, table, &[], &[]);
+fn solve_large(out: &impl Print, words: &str, table: &[u8]) -> io::Result<()> {
+    solve_one(out, words, table, &[], &[])
 }
 
-fn solves_of_entries() {
-    let words = b"two bytes of 16 and more, the first of them in front";
-    solve_large(words, &[0x10, 6, 0xff, 9]);
-    solve_large(b"a byte of 16 in the second share", &[4, 0x10, 10, 9]);
-    solve_large(b"a byte of 16 at the end", &[4, 6, 10, 0x10]);
+fn solves_of_entries(out: &impl Print) -> io::Result<()> {
+    let words = "two bytes of 16 and more, the first of them in front";
+    solve_large(out, words, &[0x10, 6, 0xff, 9])?;
+    solve_large(out, "a byte of 16 in the second share", &[4, 0x10, 10, 9])?;
+    solve_large(out, "a byte of 16 at the end", &[4, 6, 10, 0x10])?;
     let mut t = TWO_STOPS;
     t[11] = 0x1f;
-    let words = b"two equations, and the last byte is 31";
-    solve(words, order(16, 2, 2), &t, &BLANK, &[], &[]);
+    let words = "two equations, and the last byte is 31";
+    solve(out, words, order(16, 2, 2), &t, &BLANK, &[], &[])
 }
 
 // 96 equations, all 0 but for byte 20143, which is 16. Printed without the bytes.
-fn solve_most(shares: u64, table: &mut [u8]) {
+fn solve_most(out: &impl Print, shares: u64, table: &mut [u8]) -> io::Result<()> {
     let mut x = [0xeeu8; 96];
-    show::text(b"solve: 96 equations, and byte 20143 is 16\n  lent: ");
-    show::call::of_order(order(16, shares, 96));
-    say_solving(solver::solve(16, shares, 96, table, &mut x, &[], &[]));
-    show::text(b"\n");
+    show::text(out, "solve: 96 equations, and byte 20143 is 16\n  lent: ")?;
+    show::call::of_order(out, order(16, shares, 96))?;
+    say_solving(out, solver::solve(16, shares, 96, table, &mut x, &[], &[]))?;
+    show::text(out, "\n")
 }
 
-fn solves_of_most() {
+fn solves_of_most(out: &impl Print) -> io::Result<()> {
     let mut t = [0u8; 27936];
     t[20143] = 0x10;
-    solve_most(3, &mut t);
+    solve_most(out, 3, &mut t)?;
     let mut u = [0u8; 37248];
     u[20143] = 0x10;
-    solve_most(4, &mut u);
+    solve_most(out, 4, &mut u)
 }
 
 // One equation in two shares over F16, with a good mask tape.
-fn solve_with(words: &[u8], table: &[u8], nonzero: &[u8]) {
+fn solve_with(out: &impl Print, words: &str, table: &[u8], nonzero: &[u8]) -> io::Result<()> {
     let a = MASK;
-    solve_one(words, table, &a[..12], nonzero);
+    solve_one(out, words, table, &a[..12], nonzero)
 }
 
 // Two equations in two shares over F16, that stop at column 1.
-fn solve_two(words: &[u8], nonzero: &[u8]) {
+fn solve_two(out: &impl Print, words: &str, nonzero: &[u8]) -> io::Result<()> {
     solve(
+        out,
         words,
         order(16, 2, 2),
         &TWO_STOPS,
         &BLANK,
         &[0x10; 36],
         nonzero,
-    );
+    )
 }
 
-fn solves_of_draws() {
-    solve_with(b"a nonzero draw of 0", &TABLE, &[0]);
-    solve_with(b"a nonzero byte of 0x10, the draw 0", &TABLE, &[0x10]);
-    let words = b"a nonzero draw of 0, though column 1 stops";
-    solve_with(words, &ZERO_PIVOT, &[0]);
-    let words = b"the second nonzero draw is 0, though column 1 stops";
-    solve_two(words, &[0xba, 0x20]);
-    solve_two(b"one nonzero byte where two are wanted, and it is 0", &[0]);
+fn solves_of_draws(out: &impl Print) -> io::Result<()> {
+    solve_with(out, "a nonzero draw of 0", &TABLE, &[0])?;
+    solve_with(out, "a nonzero byte of 0x10, the draw 0", &TABLE, &[0x10])?;
+    let words = "a nonzero draw of 0, though column 1 stops";
+    solve_with(out, words, &ZERO_PIVOT, &[0])?;
+    let words = "the second nonzero draw is 0, though column 1 stops";
+    solve_two(out, words, &[0xba, 0x20])?;
+    solve_two(
+        out,
+        "one nonzero byte where two are wanted, and it is 0",
+        &[0],
+    )
 }
 
-fn solves_of_good_tapes() {
-    let words = b"tapes of just the length wanted, accepted";
-    solve_of(words, order(16, 2, 1));
-    let words = b"longer tapes, with a zero draw after those wanted, accepted";
-    solve_one(words, &TABLE, &MASK, &[0xba, 0x10]);
-    let words = b"mask bytes of 0x10, each the draw 0, accepted";
-    solve_one(words, &TABLE, &[0x10; 12], &[0xba]);
+fn solves_of_good_tapes(out: &impl Print) -> io::Result<()> {
+    let words = "tapes of just the length wanted, accepted";
+    solve_of(out, words, order(16, 2, 1))?;
+    let words = "longer tapes, with a zero draw after those wanted, accepted";
+    solve_one(out, words, &TABLE, &MASK, &[0xba, 0x10])?;
+    let words = "mask bytes of 0x10, each the draw 0, accepted";
+    solve_one(out, words, &TABLE, &[0x10; 12], &[0xba])
 }
 
-fn solves_accepted() {
+fn solves_accepted(out: &impl Print) -> io::Result<()> {
     let o = order(256, 2, 1);
-    let words = b"F256, with bytes of 16 and more and a nonzero draw of 0x10, accepted";
-    solve(words, o, &[0x57, 0, 0xc0, 1], &[0xee], &[0x10; 14], &[0x10]);
-    solve_with(b"a column of zeros, accepted", &ZERO_PIVOT, &[0xba]);
-    solve_two(b"two equations, column 1 zeros, accepted", &[0xba, 0x53]);
+    let words = "F256, with bytes of 16 and more and a nonzero draw of 0x10, accepted";
+    solve(
+        out,
+        words,
+        o,
+        &[0x57, 0, 0xc0, 1],
+        &[0xee],
+        &[0x10; 14],
+        &[0x10],
+    )?;
+    solve_with(out, "a column of zeros, accepted", &ZERO_PIVOT, &[0xba])?;
+    solve_two(
+        out,
+        "two equations, column 1 zeros, accepted",
+        &[0xba, 0x53],
+    )
 }
 
-fn main() {
-    solves_of_sizes();
-    solves_of_lengths();
-    solves_of_entries();
-    solves_of_most();
-    solves_of_tapes();
-    solves_of_draws();
-    solves_of_good_tapes();
-    solves_accepted();
+fn main(rt: HostRuntime) -> io::Result<()> {
+    solves_of_sizes(&rt)?;
+    solves_of_lengths(&rt)?;
+    solves_of_entries(&rt)?;
+    solves_of_most(&rt)?;
+    solves_of_tapes(&rt)?;
+    solves_of_draws(&rt)?;
+    solves_of_good_tapes(&rt)?;
+    solves_accepted(&rt)
 }

@@ -2,9 +2,12 @@
 // answer, and what was lent before and after; and a run of steps from start to done, one that ends short, and whole solves. Stands on wide, and on
 // show to print. Bytes are printed in hex after their buffer's length, other numbers in decimal.
 // The lists of calls are short: what a check of a function costs grows faster than its length.
+#![tactic(auto)]
+
 use course::{Counts, Place, Step};
 use pattern::{Pivots, WideOrder, WidePlace, WideProgress};
 use show::call::LARGEST;
+use std::io;
 use wide::{WideCounting, WideSolving, WideStarting, WideStepped, WideStepping};
 
 // Rows (1,2,1),(2,4,3), b = (5,7), in two shares. Its pivots are columns 1 and 3.
@@ -28,77 +31,77 @@ const BLANK: [u8; 3] = [238, 238, 238];
 
 // ---- printing
 
-fn say_order(o: WideOrder) {
-    show::number(b"field ", o.field);
-    show::number(b", shares ", o.shares);
-    show::number(b", rows ", o.rows);
-    show::number(b", columns ", o.columns);
+fn say_order(out: &impl Print, o: WideOrder) -> io::Result<()> {
+    show::number(out, "field ", o.field)?;
+    show::number(out, ", shares ", o.shares)?;
+    show::number(out, ", rows ", o.rows)?;
+    show::number(out, ", columns ", o.columns)
 }
 
-fn say_place(p: WidePlace) {
+fn say_place(out: &impl Print, p: WidePlace) -> io::Result<()> {
     match p {
-        WidePlace::At(s) => show::say_place(show::of_place(Place::At(s))),
-        WidePlace::Short => show::text(b"Short"),
-        WidePlace::Done => show::text(b"Done"),
+        WidePlace::At(s) => show::say_place(out, show::of_place(Place::At(s))),
+        WidePlace::Short => show::text(out, "Short"),
+        WidePlace::Done => show::text(out, "Done"),
     }
 }
 
 // The slots' first four are enough here.
-fn say_pivots(v: Pivots) {
+fn say_pivots(out: &impl Print, v: Pivots) -> io::Result<()> {
     let columns = v.columns;
-    show::number(b", pivots ", v.found);
-    show::bytes(b":", &[columns[0], columns[1], columns[2], columns[3]]);
+    show::number(out, ", pivots ", v.found)?;
+    show::bytes(out, ":", &[columns[0], columns[1], columns[2], columns[3]])
 }
 
-fn say_record(p: WideProgress) {
+fn say_record(out: &impl Print, p: WideProgress) -> io::Result<()> {
     let o = p.order;
     let place = p.place;
     let v = p.pivots;
-    show::text(b"record ");
-    say_order(o);
-    show::text(b", at ");
-    say_place(place);
-    show::number(b", taken ", p.mask);
-    show::number(b" and ", p.nonzero);
-    say_pivots(v);
+    show::text(out, "record ")?;
+    say_order(out, o)?;
+    show::text(out, ", at ")?;
+    say_place(out, place)?;
+    show::number(out, ", taken ", p.mask)?;
+    show::number(out, " and ", p.nonzero)?;
+    say_pivots(out, v)
 }
 
-fn say_counts(words: &[u8], c: Counts) {
-    show::number(words, c.steps as u64);
-    show::number(b" ", c.mask as u64);
-    show::number(b" ", c.nonzero as u64);
+fn say_counts(out: &impl Print, words: &str, c: Counts) -> io::Result<()> {
+    show::number(out, words, c.steps as u64)?;
+    show::number(out, " ", c.mask as u64)?;
+    show::number(out, " ", c.nonzero as u64)
 }
 
-fn say_stepping(a: WideStepping) {
+fn say_stepping(out: &impl Print, a: WideStepping) -> io::Result<()> {
     match a {
-        WideStepping::Moved => show::text(b"moved"),
-        WideStepping::Opened(j, x) => say_unknown(b"opened x_", j, x),
-        WideStepping::Short => show::text(b"short"),
-        WideStepping::Done(j, x) => say_unknown(b"done, x_", j, x),
-        WideStepping::Refused(r) => show::say(show::of_refusal(r)),
+        WideStepping::Moved => show::text(out, "moved"),
+        WideStepping::Opened(j, x) => say_unknown(out, "opened x_", j, x),
+        WideStepping::Short => show::text(out, "short"),
+        WideStepping::Done(j, x) => say_unknown(out, "done, x_", j, x),
+        WideStepping::Refused(r) => show::say(out, show::of_refusal(r)),
     }
 }
 
-fn say_unknown(words: &[u8], j: u64, x: u8) {
-    show::number(words, j);
-    show::number(b" = ", x as u64);
+fn say_unknown(out: &impl Print, words: &str, j: u64, x: u8) -> io::Result<()> {
+    show::number(out, words, j)?;
+    show::number(out, " = ", x as u64)
 }
 
-fn say_solving(a: WideSolving) {
+fn say_solving(out: &impl Print, a: WideSolving) -> io::Result<()> {
     match a {
-        WideSolving::Solved(c) => say_counts(b"solved, ", c),
-        WideSolving::Short(c) => say_counts(b"short, ", c),
-        WideSolving::Refused(r) => show::say(show::of_refusal(r)),
+        WideSolving::Solved(c) => say_counts(out, "solved, ", c),
+        WideSolving::Short(c) => say_counts(out, "short, ", c),
+        WideSolving::Refused(r) => show::say(out, show::of_refusal(r)),
     }
 }
 
-fn say_counting(a: WideCounting) {
+fn say_counting(out: &impl Print, a: WideCounting) -> io::Result<()> {
     match a {
         WideCounting::Wanted(mask, nonzero) => {
-            show::number(b"", mask as u64);
-            show::number(b" ", nonzero as u64);
+            show::number(out, "", mask as u64)?;
+            show::number(out, " ", nonzero as u64)
         }
-        WideCounting::Refused(r) => show::say(show::of_refusal(r)),
+        WideCounting::Refused(r) => show::say(out, show::of_refusal(r)),
     }
 }
 
@@ -113,71 +116,76 @@ fn order(field: u64, shares: u64, rows: u64, columns: u64) -> WideOrder {
     }
 }
 
-fn start(words: &[u8], o: WideOrder) {
-    show::call::begin(b"wide start", words);
-    say_order(o);
-    show::call::middle();
+fn start(out: &impl Print, words: &str, o: WideOrder) -> io::Result<()> {
+    show::call::begin(out, "wide start", words)?;
+    say_order(out, o)?;
+    show::call::middle(out)?;
     let s = wide::start(o.field, o.shares, o.rows, o.columns);
     let answer = s.answer;
     let record = s.record;
     match answer {
-        WideStarting::Fresh => show::text(b"fresh"),
-        WideStarting::Refused(r) => show::say(show::of_refusal(r)),
+        WideStarting::Fresh => show::text(out, "fresh")?,
+        WideStarting::Refused(r) => show::say(out, show::of_refusal(r))?,
     }
-    show::call::after();
-    say_record(record);
-    show::text(b"\n");
+    show::call::after(out)?;
+    say_record(out, record)?;
+    show::text(out, "\n")
 }
 
-fn counts(words: &[u8], o: WideOrder) {
-    show::call::begin(b"wide counts", words);
-    say_order(o);
-    show::call::middle();
-    say_counting(wide::counts(o.field, o.shares, o.rows, o.columns));
-    show::text(b"\n");
+fn counts(out: &impl Print, words: &str, o: WideOrder) -> io::Result<()> {
+    show::call::begin(out, "wide counts", words)?;
+    say_order(out, o)?;
+    show::call::middle(out)?;
+    say_counting(out, wide::counts(o.field, o.shares, o.rows, o.columns))?;
+    show::text(out, "\n")
 }
 
-fn both(words: &[u8], o: WideOrder) {
-    start(words, o);
-    counts(words, o);
+fn both(out: &impl Print, words: &str, o: WideOrder) -> io::Result<()> {
+    start(out, words, o)?;
+    counts(out, words, o)
 }
 
-fn orders_of_fields() {
-    both(b"field 256: F16 alone", order(256, 2, 2, 3));
-    both(b"field 0", order(0, 2, 2, 3));
-    both(b"field 65552", order(65552, 2, 2, 3));
+fn orders_of_fields(out: &impl Print) -> io::Result<()> {
+    both(out, "field 256: F16 alone", order(256, 2, 2, 3))?;
+    both(out, "field 0", order(0, 2, 2, 3))?;
+    both(out, "field 65552", order(65552, 2, 2, 3))?;
     both(
-        b"field 31, shares 1, rows 97: the field",
+        out,
+        "field 31, shares 1, rows 97: the field",
         order(31, 1, 97, 200),
-    );
+    )
 }
 
-fn orders_of_shares() {
-    both(b"no shares", order(16, 0, 2, 3));
-    both(b"one share", order(16, 1, 2, 3));
-    both(b"five shares", order(16, 5, 2, 3));
-    both(b"one share, and rows 0: the shares", order(16, 1, 0, 3));
+fn orders_of_shares(out: &impl Print) -> io::Result<()> {
+    both(out, "no shares", order(16, 0, 2, 3))?;
+    both(out, "one share", order(16, 1, 2, 3))?;
+    both(out, "five shares", order(16, 5, 2, 3))?;
+    both(out, "one share, and rows 0: the shares", order(16, 1, 0, 3))
 }
 
-fn orders_of_rows() {
-    both(b"no rows", order(16, 2, 0, 3));
-    both(b"rows 97", order(16, 2, 97, 144));
-    both(b"rows 97 and columns 145: the rows", order(16, 2, 97, 145));
-    both(b"rows 2^64-1", order(16, 2, LARGEST, LARGEST));
+fn orders_of_rows(out: &impl Print) -> io::Result<()> {
+    both(out, "no rows", order(16, 2, 0, 3))?;
+    both(out, "rows 97", order(16, 2, 97, 144))?;
+    both(
+        out,
+        "rows 97 and columns 145: the rows",
+        order(16, 2, 97, 145),
+    )?;
+    both(out, "rows 2^64-1", order(16, 2, LARGEST, LARGEST))
 }
 
-fn orders_of_columns() {
-    both(b"fewer columns than rows", order(16, 2, 3, 2));
-    both(b"columns 145", order(16, 2, 2, 145));
-    both(b"no columns", order(16, 2, 1, 0));
-    both(b"columns 2^64-1", order(16, 2, 2, LARGEST));
+fn orders_of_columns(out: &impl Print) -> io::Result<()> {
+    both(out, "fewer columns than rows", order(16, 2, 3, 2))?;
+    both(out, "columns 145", order(16, 2, 2, 145))?;
+    both(out, "no columns", order(16, 2, 1, 0))?;
+    both(out, "columns 2^64-1", order(16, 2, 2, LARGEST))
 }
 
-fn orders_accepted() {
-    both(b"one row and one column", order(16, 2, 1, 1));
-    both(b"two rows and three columns", order(16, 2, 2, 3));
-    both(b"in three shares", order(16, 3, 2, 3));
-    both(b"the largest", order(16, 4, 96, 144));
+fn orders_accepted(out: &impl Print) -> io::Result<()> {
+    both(out, "one row and one column", order(16, 2, 1, 1))?;
+    both(out, "two rows and three columns", order(16, 2, 2, 3))?;
+    both(out, "in three shares", order(16, 3, 2, 3))?;
+    both(out, "the largest", order(16, 4, 96, 144))
 }
 
 // ---- records of two rows and three columns in two shares
@@ -230,31 +238,31 @@ fn begun() -> WideProgress {
     record(at(Step::Mix { j: 1, k: 2 }), none(), 0, 0)
 }
 
-fn wanted(words: &[u8], p: WideProgress) {
-    show::call::begin(b"wide wanted", words);
-    say_record(p);
-    show::call::middle();
-    say_counting(wide::wanted(p));
-    show::text(b"\n");
+fn wanted(out: &impl Print, words: &str, p: WideProgress) -> io::Result<()> {
+    show::call::begin(out, "wide wanted", words)?;
+    say_record(out, p)?;
+    show::call::middle(out)?;
+    say_counting(out, wide::wanted(p))?;
+    show::text(out, "\n")
 }
 
-fn wanted_along() {
-    wanted(b"the first place", begun());
+fn wanted_along(out: &impl Print) -> io::Result<()> {
+    wanted(out, "the first place", begun())?;
     let scale = record(at(Step::Scale(1)), first(), 13, 0);
-    wanted(b"Scale(1)", scale);
+    wanted(out, "Scale(1)", scale)?;
     let check = record(at(Step::Check(3)), first(), 32, 1);
-    wanted(b"Check(3), column 2 passed over", check);
-    wanted(b"Lift(3)", record(at(Step::Lift(3)), pair(), 44, 2));
+    wanted(out, "Check(3), column 2 passed over", check)?;
+    wanted(out, "Lift(3)", record(at(Step::Lift(3)), pair(), 44, 2))
 }
 
-fn wanted_ended() {
+fn wanted_ended(out: &impl Print) -> io::Result<()> {
     let short = record(WidePlace::Short, none(), 36, 0);
-    wanted(b"short", short);
-    wanted(b"done", record(WidePlace::Done, pair(), 45, 2));
-    let words = b"short, with counters of no pattern: 19 goes before 11";
-    wanted(words, record(WidePlace::Short, none(), 37, 0));
-    let words = b"short with a pivot for each row: 10 goes before 19";
-    wanted(words, record(WidePlace::Short, pair(), 0, 0));
+    wanted(out, "short", short)?;
+    wanted(out, "done", record(WidePlace::Done, pair(), 45, 2))?;
+    let words = "short, with counters of no pattern: 19 goes before 11";
+    wanted(out, words, record(WidePlace::Short, none(), 37, 0))?;
+    let words = "short with a pivot for each row: 10 goes before 19";
+    wanted(out, words, record(WidePlace::Short, pair(), 0, 0))
 }
 
 // ---- steps
@@ -317,53 +325,63 @@ fn step_in(
 }
 
 fn begin_step(
-    words: &[u8],
+    out: &impl Print,
+    words: &str,
     p: WideProgress,
     table: &[u8],
     solution: &[u8],
     mask: &[u8],
     nonzero: &[u8],
-) {
-    show::call::begin(b"wide step", words);
-    show::call::lent(table, solution, mask, nonzero);
-    say_record(p);
-    show::call::middle();
+) -> io::Result<()> {
+    show::call::begin(out, "wide step", words)?;
+    show::call::lent(out, table, solution, mask, nonzero)?;
+    say_record(out, p)?;
+    show::call::middle(out)
 }
 
 // The copies begin t and x.
 fn end_step(
+    out: &impl Print,
     p: WideProgress,
     q: WideProgress,
     table: &[u8],
     solution: &[u8],
     t: &[u8; 16],
     x: &[u8; 4],
-) {
+) -> io::Result<()> {
     let u = &t[..];
     let y = &x[..];
     let k = table.len();
     let m = solution.len();
     if u.len() < k || y.len() < m {
-        return show::call::too_long();
+        return show::call::too_long(out);
     }
-    show::call::after();
-    show::buffer(b"table ", &u[0..k]);
-    show::buffer(b"solution ", &y[0..m]);
-    say_record(q);
-    show::text(b"; ");
+    show::call::after(out)?;
+    show::buffer(out, "table ", &u[0..k])?;
+    show::buffer(out, "solution ", &y[0..m])?;
+    say_record(out, q)?;
+    show::text(out, "; ")?;
     let same = show::alike(table, &u[0..k]) && show::alike(solution, &y[0..m]);
-    show::call::end(same && same_record(p, q));
+    show::call::end(out, same && same_record(p, q))
 }
 
-fn step(words: &[u8], p: WideProgress, table: &[u8], solution: &[u8], mask: &[u8], nonzero: &[u8]) {
+fn step(
+    out: &impl Print,
+    words: &str,
+    p: WideProgress,
+    table: &[u8],
+    solution: &[u8],
+    mask: &[u8],
+    nonzero: &[u8],
+) -> io::Result<()> {
     let mut t = [0u8; 16];
     let mut x = [0u8; 4];
     let k = table.len();
     let m = solution.len();
     if 16 < k || 4 < m {
-        return show::call::too_long();
+        return show::call::too_long(out);
     }
-    begin_step(words, p, table, solution, mask, nonzero);
+    begin_step(out, words, p, table, solution, mask, nonzero)?;
     let a = step_in(
         p,
         table,
@@ -375,227 +393,266 @@ fn step(words: &[u8], p: WideProgress, table: &[u8], solution: &[u8], mask: &[u8
     );
     let answer = a.answer;
     let q = a.next;
-    say_stepping(answer);
-    end_step(p, q, table, solution, &t, &x);
+    say_stepping(out, answer)?;
+    end_step(out, p, q, table, solution, &t, &x)
 }
 
 // The first place, with a good table, solution and tapes.
-fn step_of(words: &[u8], o: WideOrder) {
+fn step_of(out: &impl Print, words: &str, o: WideOrder) -> io::Result<()> {
     let a = MASK;
     let p = record_of(o, at(Step::Mix { j: 1, k: 2 }), none(), 0, 0);
-    step(words, p, &TABLE, &BLANK, &a[..8], &[]);
+    step(out, words, p, &TABLE, &BLANK, &a[..8], &[])
 }
 
-fn steps_of_sizes() {
-    step_of(b"field 256", order(256, 2, 2, 3));
-    step_of(b"shares 1", order(16, 1, 2, 3));
-    step_of(b"rows 0", order(16, 2, 0, 3));
-    step_of(b"columns 1", order(16, 2, 2, 1));
-    step_of(b"a table of another size", order(16, 2, 2, 4));
+fn steps_of_sizes(out: &impl Print) -> io::Result<()> {
+    step_of(out, "field 256", order(256, 2, 2, 3))?;
+    step_of(out, "shares 1", order(16, 1, 2, 3))?;
+    step_of(out, "rows 0", order(16, 2, 0, 3))?;
+    step_of(out, "columns 1", order(16, 2, 2, 1))?;
+    step_of(out, "a table of another size", order(16, 2, 2, 4))
 }
 
-fn steps_of_buffers() {
-    let words = b"a table of 15 bytes, and a solution of 2";
+fn steps_of_buffers(out: &impl Print) -> io::Result<()> {
+    let words = "a table of 15 bytes, and a solution of 2";
     let t = TABLE;
-    step(words, begun(), &t[..15], &[238, 238], &[], &[]);
-    let words = b"a solution of 2 bytes, as many as rows";
-    step(words, begun(), &TABLE, &[238, 238], &[], &[]);
-    let words = b"a solution of 4 bytes, and pivots that no place has";
+    step(out, words, begun(), &t[..15], &[238, 238], &[], &[])?;
+    let words = "a solution of 2 bytes, as many as rows";
+    step(out, words, begun(), &TABLE, &[238, 238], &[], &[])?;
+    let words = "a solution of 4 bytes, and pivots that no place has";
     let p = record(at(Step::Check(1)), slots(1, 0, 0, 0), 0, 0);
-    step(words, p, &TABLE, &[238; 4], &[], &[]);
+    step(out, words, p, &TABLE, &[238; 4], &[], &[])
 }
 
 // A made-up record, with a large byte in the table and no tapes: 10, 19 and 11 go before 6 and 7.
-fn made_up(words: &[u8], p: WideProgress) {
+fn made_up(out: &impl Print, words: &str, p: WideProgress) -> io::Result<()> {
     let mut t = TABLE;
     t[15] = 16;
-    step(words, p, &t, &BLANK, &[], &[]);
+    step(out, words, p, &t, &BLANK, &[], &[])
 }
 
-fn steps_off_list() {
+fn steps_off_list(out: &impl Print) -> io::Result<()> {
     made_up(
-        b"Mix(1,1)",
+        out,
+        "Mix(1,1)",
         record(at(Step::Mix { j: 1, k: 1 }), none(), 0, 0),
-    );
-    made_up(b"Check(4)", record(at(Step::Check(4)), none(), 0, 0));
-    made_up(b"Check(0)", record(at(Step::Check(0)), none(), 0, 0));
-    let words = b"Scale(1) before its pivot is found";
-    made_up(words, record(at(Step::Scale(1)), none(), 13, 0));
-    let words = b"Lift of the first pivot";
-    made_up(words, record(at(Step::Lift(1)), pair(), 45, 2));
+    )?;
+    made_up(out, "Check(4)", record(at(Step::Check(4)), none(), 0, 0))?;
+    made_up(out, "Check(0)", record(at(Step::Check(0)), none(), 0, 0))?;
+    let words = "Scale(1) before its pivot is found";
+    made_up(out, words, record(at(Step::Scale(1)), none(), 13, 0))?;
+    let words = "Lift of the first pivot";
+    made_up(out, words, record(at(Step::Lift(1)), pair(), 45, 2))
 }
 
-fn steps_off_pattern() {
-    let words = b"Open(2), and column 2 is no pivot";
-    made_up(words, record(at(Step::Open(2)), pair(), 43, 2));
-    let words = b"Open with a row that has no pivot";
-    made_up(words, record(at(Step::Open(1)), first(), 43, 2));
-    let words = b"Check(1), and column 1 is a pivot";
-    made_up(words, record(at(Step::Check(1)), first(), 8, 0));
-    let words = b"done with one pivot";
-    made_up(words, record(WidePlace::Done, first(), 45, 2));
+fn steps_off_pattern(out: &impl Print) -> io::Result<()> {
+    let words = "Open(2), and column 2 is no pivot";
+    made_up(out, words, record(at(Step::Open(2)), pair(), 43, 2))?;
+    let words = "Open with a row that has no pivot";
+    made_up(out, words, record(at(Step::Open(1)), first(), 43, 2))?;
+    let words = "Check(1), and column 1 is a pivot";
+    made_up(out, words, record(at(Step::Check(1)), first(), 8, 0))?;
+    let words = "done with one pivot";
+    made_up(out, words, record(WidePlace::Done, first(), 45, 2))
 }
 
-fn steps_of_pivots() {
+fn steps_of_pivots(out: &impl Print) -> io::Result<()> {
     let check = at(Step::Check(3));
     made_up(
-        b"pivots that descend",
+        out,
+        "pivots that descend",
         record(WidePlace::Done, slots(2, 3, 1, 0), 45, 2),
-    );
+    )?;
     made_up(
-        b"a pivot twice",
+        out,
+        "a pivot twice",
         record(WidePlace::Done, slots(2, 3, 3, 0), 45, 2),
-    );
-    made_up(b"a pivot 0", record(check, slots(1, 0, 0, 0), 32, 1));
+    )?;
+    made_up(out, "a pivot 0", record(check, slots(1, 0, 0, 0), 32, 1))?;
     made_up(
-        b"a pivot past the columns",
+        out,
+        "a pivot past the columns",
         record(WidePlace::Done, slots(2, 1, 4, 0), 45, 2),
-    );
+    )?;
     made_up(
-        b"a slot that is not used and not 0",
+        out,
+        "a slot that is not used and not 0",
         record(check, slots(1, 1, 0, 1), 32, 1),
-    );
+    )
 }
 
-fn steps_of_many_pivots() {
+fn steps_of_many_pivots(out: &impl Print) -> io::Result<()> {
     made_up(
-        b"more pivots than rows",
+        out,
+        "more pivots than rows",
         record(WidePlace::Done, slots(3, 1, 2, 3), 45, 2),
-    );
+    )?;
     made_up(
-        b"97 pivots",
+        out,
+        "97 pivots",
         record(WidePlace::Done, slots(97, 1, 3, 0), 45, 2),
-    );
+    )?;
     made_up(
-        b"2^64-1 pivots",
+        out,
+        "2^64-1 pivots",
         record(WidePlace::Done, slots(LARGEST, 1, 3, 0), 45, 2),
-    );
+    )
 }
 
-fn steps_of_counters() {
+fn steps_of_counters(out: &impl Print) -> io::Result<()> {
     let check = at(Step::Check(3));
-    made_up(b"a mask draw too few", record(check, first(), 31, 1));
-    made_up(b"a nonzero draw too many", record(check, first(), 32, 2));
-    let words = b"the counters of another pattern";
-    made_up(words, record(check, slots(1, 2, 0, 0), 32, 1));
+    made_up(out, "a mask draw too few", record(check, first(), 31, 1))?;
     made_up(
-        b"done, and a large byte",
+        out,
+        "a nonzero draw too many",
+        record(check, first(), 32, 2),
+    )?;
+    let words = "the counters of another pattern";
+    made_up(out, words, record(check, slots(1, 2, 0, 0), 32, 1))?;
+    made_up(
+        out,
+        "done, and a large byte",
         record(WidePlace::Done, pair(), 45, 2),
-    );
+    )
 }
 
-fn steps_of_tapes() {
+fn steps_of_tapes(out: &impl Print) -> io::Result<()> {
     let a = MASK;
     let p = begun();
     let mut t = TABLE;
     t[7] = 16;
-    let words = b"a byte of 16 in row 1, column 4, share 2, and no tapes";
-    step(words, p, &t, &BLANK, &[], &[]);
+    let words = "a byte of 16 in row 1, column 4, share 2, and no tapes";
+    step(out, words, p, &t, &BLANK, &[], &[])?;
     step(
-        b"7 mask bytes where 8 are wanted",
+        out,
+        "7 mask bytes where 8 are wanted",
         p,
         &TABLE,
         &BLANK,
         &a[..7],
         &[],
-    );
+    )?;
     step(
-        b"9 mask bytes where 8 are wanted",
+        out,
+        "9 mask bytes where 8 are wanted",
         p,
         &TABLE,
         &BLANK,
         &a[..9],
         &[],
-    );
+    )?;
     step(
-        b"a nonzero byte where none is wanted",
+        out,
+        "a nonzero byte where none is wanted",
         p,
         &TABLE,
         &BLANK,
         &a[..8],
         &[1],
-    );
+    )
 }
 
 // Scale(1) of a table whose T[1,1] is 0, and of one where it is not.
-fn scales() {
+fn scales(out: &impl Print) -> io::Result<()> {
     let a = MASK;
     let p = record(at(Step::Scale(1)), first(), 13, 0);
     step(
-        b"11 mask bytes, and no nonzero byte: 14",
+        out,
+        "11 mask bytes, and no nonzero byte: 14",
         p,
         &LOW,
         &BLANK,
         &a[..11],
         &[],
-    );
-    step(b"no nonzero byte", p, &LOW, &BLANK, &a[..10], &[]);
-    step(b"a nonzero draw of 0", p, &LOW, &BLANK, &a[..10], &[32]);
-    step(b"the pivot is 0", p, &LOW, &BLANK, &a[..10], &[3]);
-    step(b"the pivot is 1", p, &TABLE, &BLANK, &a[..10], &[3]);
+    )?;
+    step(out, "no nonzero byte", p, &LOW, &BLANK, &a[..10], &[])?;
+    step(out, "a nonzero draw of 0", p, &LOW, &BLANK, &a[..10], &[32])?;
+    step(out, "the pivot is 0", p, &LOW, &BLANK, &a[..10], &[3])?;
+    step(out, "the pivot is 1", p, &TABLE, &BLANK, &a[..10], &[3])
 }
 
 // Scale(3) stands in row 2: of LOW the pivot is 1 there, and of another table 0.
-fn scales_of_row_two() {
+fn scales_of_row_two(out: &impl Print) -> io::Result<()> {
     let a = MASK;
     let p = record(at(Step::Scale(3)), pair(), 37, 1);
     let mut t = LOW;
     t[12] = 1;
-    step(b"row 2, and the pivot is 0", p, &t, &BLANK, &a[..6], &[3]);
-    step(b"row 2, and the pivot is 1", p, &LOW, &BLANK, &a[..6], &[3]);
+    step(
+        out,
+        "row 2, and the pivot is 0",
+        p,
+        &t,
+        &BLANK,
+        &a[..6],
+        &[3],
+    )?;
+    step(
+        out,
+        "row 2, and the pivot is 1",
+        p,
+        &LOW,
+        &BLANK,
+        &a[..6],
+        &[3],
+    )
 }
 
-fn lifts() {
+fn lifts(out: &impl Print) -> io::Result<()> {
     let p = record(at(Step::Lift(3)), pair(), 44, 2);
-    let words = b"x_3 is 16 where Lift reads it, and a mask byte: 14 goes first";
-    step(words, p, &TABLE, &[238, 238, 16], &[0], &[]);
+    let words = "x_3 is 16 where Lift reads it, and a mask byte: 14 goes first";
+    step(out, words, p, &TABLE, &[238, 238, 16], &[0], &[])?;
     step(
-        b"x_3 is 16 where Lift reads it",
+        out,
+        "x_3 is 16 where Lift reads it",
         p,
         &TABLE,
         &[238, 238, 16],
         &[],
         &[],
-    );
-    step(b"x_3 is 13", p, &TABLE, &[238, 238, 13], &[], &[]);
+    )?;
+    step(out, "x_3 is 13", p, &TABLE, &[238, 238, 13], &[], &[])
 }
 
 // ---- whole runs
 
 // All steps from start, each on the draws of the mask tape from where its record says; a run of two rows and three columns has at most eleven.
-fn run(words: &[u8], table: [u8; 16]) {
+fn run(out: &impl Print, words: &str, table: [u8; 16]) -> io::Result<()> {
     let mut t = table;
     let mut x = BLANK;
-    show::text(words);
-    show::text(b"\n");
-    twelve(&mut t[0..16], &mut x[0..3]);
-    end_run(&t, &x);
+    show::text(out, words)?;
+    show::text(out, "\n")?;
+    twelve(out, &mut t[0..16], &mut x[0..3])?;
+    end_run(out, &t, &x)
 }
 
-fn end_run(t: &[u8; 16], x: &[u8; 3]) {
-    show::buffer(b"  table ", &t[..]);
-    show::buffer(b"solution ", &x[..]);
-    show::text(b"\n");
+fn end_run(out: &impl Print, t: &[u8; 16], x: &[u8; 3]) -> io::Result<()> {
+    show::buffer(out, "  table ", &t[..])?;
+    show::buffer(out, "solution ", &x[..])?;
+    show::text(out, "\n")
 }
 
-fn twelve(t: &mut [u8], x: &mut [u8]) {
-    let p = four(begun(), t, x);
-    eight(p, t, x);
+fn twelve(out: &impl Print, t: &mut [u8], x: &mut [u8]) -> io::Result<()> {
+    let p = four(out, begun(), t, x)?;
+    eight(out, p, t, x)
 }
 
-fn eight(p: WideProgress, t: &mut [u8], x: &mut [u8]) -> WideProgress {
-    let q = four(p, t, x);
-    four(q, t, x)
+fn eight(
+    out: &impl Print,
+    p: WideProgress,
+    t: &mut [u8],
+    x: &mut [u8],
+) -> io::Result<WideProgress> {
+    let q = four(out, p, t, x)?;
+    four(out, q, t, x)
 }
 
-fn four(p: WideProgress, t: &mut [u8], x: &mut [u8]) -> WideProgress {
-    let q = two(p, t, x);
-    two(q, t, x)
+fn four(out: &impl Print, p: WideProgress, t: &mut [u8], x: &mut [u8]) -> io::Result<WideProgress> {
+    let q = two(out, p, t, x)?;
+    two(out, q, t, x)
 }
 
-fn two(p: WideProgress, t: &mut [u8], x: &mut [u8]) -> WideProgress {
-    let q = turn(p, t, x);
-    turn(q, t, x)
+fn two(out: &impl Print, p: WideProgress, t: &mut [u8], x: &mut [u8]) -> io::Result<WideProgress> {
+    let q = turn(out, p, t, x)?;
+    turn(out, q, t, x)
 }
 
 // So many bytes from a place on, or as many as there are.
@@ -611,7 +668,7 @@ fn part(s: &[u8], at: usize, many: usize) -> &[u8] {
 }
 
 // One step of it, and nothing where it has ended.
-fn turn(p: WideProgress, t: &mut [u8], x: &mut [u8]) -> WideProgress {
+fn turn(out: &impl Print, p: WideProgress, t: &mut [u8], x: &mut [u8]) -> io::Result<WideProgress> {
     let a = MASK;
     let b = NONZERO;
     let WideCounting::Wanted(mask, nonzero) = wide::wanted(p) else {
@@ -622,12 +679,12 @@ fn turn(p: WideProgress, t: &mut [u8], x: &mut [u8]) -> WideProgress {
     let s = wide::step(p, t, x, ds, zs);
     let answer = s.answer;
     let next = s.next;
-    show::text(b"  ");
-    say_stepping(answer);
-    show::text(b", ");
-    say_record(next);
-    show::text(b"\n");
-    next
+    show::text(out, "  ")?;
+    say_stepping(out, answer)?;
+    show::text(out, ", ")?;
+    say_record(out, next)?;
+    show::text(out, "\n")?;
+    Ok(next)
 }
 
 fn solve_in(
@@ -645,32 +702,49 @@ fn solve_in(
 }
 
 // The copies begin t and x.
-fn end_solve(table: &[u8], solution: &[u8], t: &[u8; 16], x: &[u8; 4]) {
+fn end_solve(
+    out: &impl Print,
+    table: &[u8],
+    solution: &[u8],
+    t: &[u8; 16],
+    x: &[u8; 4],
+) -> io::Result<()> {
     let u = &t[..];
     let y = &x[..];
     let k = table.len();
     let m = solution.len();
     if u.len() < k || y.len() < m {
-        return show::call::too_long();
+        return show::call::too_long(out);
     }
-    show::call::after();
-    show::buffer(b"table ", &u[0..k]);
-    show::buffer(b"solution ", &y[0..m]);
-    show::call::end(show::alike(table, &u[0..k]) && show::alike(solution, &y[0..m]));
+    show::call::after(out)?;
+    show::buffer(out, "table ", &u[0..k])?;
+    show::buffer(out, "solution ", &y[0..m])?;
+    show::call::end(
+        out,
+        show::alike(table, &u[0..k]) && show::alike(solution, &y[0..m]),
+    )
 }
 
-fn solve(words: &[u8], o: WideOrder, table: &[u8], solution: &[u8], mask: &[u8], nonzero: &[u8]) {
+fn solve(
+    out: &impl Print,
+    words: &str,
+    o: WideOrder,
+    table: &[u8],
+    solution: &[u8],
+    mask: &[u8],
+    nonzero: &[u8],
+) -> io::Result<()> {
     let mut t = [0u8; 16];
     let mut x = [0u8; 4];
     let k = table.len();
     let m = solution.len();
     if 16 < k || 4 < m {
-        return show::call::too_long();
+        return show::call::too_long(out);
     }
-    show::call::begin(b"wide solve", words);
-    show::call::lent(table, solution, mask, nonzero);
-    say_order(o);
-    show::call::middle();
+    show::call::begin(out, "wide solve", words)?;
+    show::call::lent(out, table, solution, mask, nonzero)?;
+    say_order(out, o)?;
+    show::call::middle(out)?;
     let a = solve_in(
         o,
         table,
@@ -680,94 +754,114 @@ fn solve(words: &[u8], o: WideOrder, table: &[u8], solution: &[u8], mask: &[u8],
         &mut t[0..k],
         &mut x[0..m],
     );
-    say_solving(a);
-    end_solve(table, solution, &t, &x);
+    say_solving(out, a)?;
+    end_solve(out, table, solution, &t, &x)
 }
 
 // Two rows and three columns in two shares.
-fn solve_two(words: &[u8], table: &[u8], solution: &[u8], mask: &[u8], nonzero: &[u8]) {
-    solve(words, order(16, 2, 2, 3), table, solution, mask, nonzero);
+fn solve_two(
+    out: &impl Print,
+    words: &str,
+    table: &[u8],
+    solution: &[u8],
+    mask: &[u8],
+    nonzero: &[u8],
+) -> io::Result<()> {
+    solve(
+        out,
+        words,
+        order(16, 2, 2, 3),
+        table,
+        solution,
+        mask,
+        nonzero,
+    )
 }
 
-fn solves_of_sizes() {
+fn solves_of_sizes(out: &impl Print) -> io::Result<()> {
     let o = order(16, 2, 2, 145);
-    solve(b"columns 145, and no table", o, &[], &[], &[], &[]);
+    solve(out, "columns 145, and no table", o, &[], &[], &[], &[])?;
     solve(
-        b"field 256",
+        out,
+        "field 256",
         order(256, 2, 2, 3),
         &TABLE,
         &BLANK,
         &MASK,
         &NONZERO,
-    );
+    )?;
     let t = TABLE;
     solve_two(
-        b"a table of 15 bytes, and no solution",
+        out,
+        "a table of 15 bytes, and no solution",
         &t[..15],
         &[],
         &[],
         &[],
-    );
-    let words = b"a solution of 2 bytes, as many as rows";
-    solve_two(words, &TABLE, &[238, 238], &[], &[]);
+    )?;
+    let words = "a solution of 2 bytes, as many as rows";
+    solve_two(out, words, &TABLE, &[238, 238], &[], &[])
 }
 
-fn solves_of_tapes() {
+fn solves_of_tapes(out: &impl Print) -> io::Result<()> {
     let a = MASK;
     let mut t = TABLE;
     t[8] = 255;
-    solve_two(b"a byte of 255, and no tapes", &t, &BLANK, &[], &[]);
+    solve_two(out, "a byte of 255, and no tapes", &t, &BLANK, &[], &[])?;
     solve_two(
-        b"70 mask bytes where 71 are wanted",
+        out,
+        "70 mask bytes where 71 are wanted",
         &TABLE,
         &BLANK,
         &a[..70],
         &[],
-    );
+    )?;
     solve_two(
-        b"1 nonzero byte where 2 are wanted",
+        out,
+        "1 nonzero byte where 2 are wanted",
         &TABLE,
         &BLANK,
         &a[..71],
         &[0],
-    );
+    )?;
     solve_two(
-        b"the second nonzero draw is 0",
+        out,
+        "the second nonzero draw is 0",
         &TABLE,
         &BLANK,
         &a[..71],
         &[3, 16, 9],
-    );
+    )
 }
 
-fn solves() {
-    solve_two(b"pivots 1 and 3", &TABLE, &BLANK, &MASK, &NONZERO);
-    let words = b"short: the third nonzero draw, 0, is not needed";
-    solve_two(words, &LOW, &BLANK, &MASK, &[3, 6, 0]);
+fn solves(out: &impl Print) -> io::Result<()> {
+    solve_two(out, "pivots 1 and 3", &TABLE, &BLANK, &MASK, &NONZERO)?;
+    let words = "short: the third nonzero draw, 0, is not needed";
+    solve_two(out, words, &LOW, &BLANK, &MASK, &[3, 6, 0])
 }
 
-fn main() {
-    orders_of_fields();
-    orders_of_shares();
-    orders_of_rows();
-    orders_of_columns();
-    orders_accepted();
-    wanted_along();
-    wanted_ended();
-    steps_of_sizes();
-    steps_of_buffers();
-    steps_off_list();
-    steps_off_pattern();
-    steps_of_pivots();
-    steps_of_many_pivots();
-    steps_of_counters();
-    steps_of_tapes();
-    scales();
-    scales_of_row_two();
-    lifts();
-    run(b"A run of steps: pivots 1 and 3", TABLE);
-    run(b"A run of steps that ends short", LOW);
-    solves_of_sizes();
-    solves_of_tapes();
-    solves();
+fn main(rt: HostRuntime) -> io::Result<()> {
+    orders_of_fields(&rt)?;
+    orders_of_shares(&rt)?;
+    orders_of_rows(&rt)?;
+    orders_of_columns(&rt)?;
+    orders_accepted(&rt)?;
+    wanted_along(&rt)?;
+    wanted_ended(&rt)?;
+    steps_of_sizes(&rt)?;
+    steps_of_buffers(&rt)?;
+    steps_off_list(&rt)?;
+    steps_off_pattern(&rt)?;
+    steps_of_pivots(&rt)?;
+    steps_of_many_pivots(&rt)?;
+    steps_of_counters(&rt)?;
+    steps_of_tapes(&rt)?;
+    scales(&rt)?;
+    scales_of_row_two(&rt)?;
+    lifts(&rt)?;
+    run(&rt, "A run of steps: pivots 1 and 3", TABLE)?;
+    run(&rt, "A run of steps that ends short", LOW)?;
+    solves_of_sizes(&rt)?;
+    solves_of_tapes(&rt)?;
+    solves(&rt)
 }

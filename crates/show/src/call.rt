@@ -1,6 +1,7 @@
 // The lines in which the programs refusals_* print a call, with its answer and what was lent before and after, and the small systems that
 // they lend.
 use course::Order;
+use std::io;
 
 // The system [2]x = [3] over F16 in two shares, and a mask tape for it, one byte longer than a full solve needs.
 pub const TABLE: [u8; 4] = [4, 6, 10, 9];
@@ -34,43 +35,49 @@ pub fn copy(from: &[u8], to: &mut [u8]) {
 }
 
 // The call in words, and the start of the line of what is lent.
-pub fn begin(call: &[u8], words: &[u8]) {
-    super::text(call);
-    super::text(b": ");
-    super::text(words);
-    super::text(b"\n  lent: ");
+pub fn begin(out: &impl Print, call: &str, words: &str) -> io::Result<()> {
+    super::text(out, call)?;
+    super::text(out, ": ")?;
+    super::text(out, words)?;
+    super::text(out, "\n  lent: ")
 }
 
 // What solve and step are lent, besides the order or the record.
-pub fn lent(table: &[u8], solution: &[u8], mask: &[u8], nonzero: &[u8]) {
-    super::buffer(b"table ", table);
-    super::buffer(b"solution ", solution);
-    super::buffer(b"mask ", mask);
-    super::buffer(b"nonzero ", nonzero);
+pub fn lent(
+    out: &impl Print,
+    table: &[u8],
+    solution: &[u8],
+    mask: &[u8],
+    nonzero: &[u8],
+) -> io::Result<()> {
+    super::buffer(out, "table ", table)?;
+    super::buffer(out, "solution ", solution)?;
+    super::buffer(out, "mask ", mask)?;
+    super::buffer(out, "nonzero ", nonzero)
 }
 
 // The end of that line, where it ends with the order.
-pub fn of_order(o: Order) {
-    super::order(o.field, o.shares, o.size);
-    middle();
+pub fn of_order(out: &impl Print, o: Order) -> io::Result<()> {
+    super::order(out, o.field, o.shares, o.size)?;
+    middle(out)
 }
 
-pub fn middle() {
-    super::text(b"\n  answer: ");
+pub fn middle(out: &impl Print) -> io::Result<()> {
+    super::text(out, "\n  answer: ")
 }
 
-pub fn after() {
-    super::text(b"\n  after: ");
+pub fn after(out: &impl Print) -> io::Result<()> {
+    super::text(out, "\n  after: ")
 }
 
-pub fn end(same: bool) {
+pub fn end(out: &impl Print, same: bool) -> io::Result<()> {
     if same {
-        super::text(b"unchanged\n");
+        super::text(out, "unchanged\n")
     } else {
-        super::text(b"changed\n");
+        super::text(out, "changed\n")
     }
 }
 
-pub fn too_long() {
-    super::text(b"too long for this program\n");
+pub fn too_long(out: &impl Print) -> io::Result<()> {
+    super::text(out, "too long for this program\n")
 }

@@ -1,14 +1,16 @@
 // Printing for the programs examples, solves and refusals_*: bytes, numbers, and the public calls' answers as words with 01's numbers.
-// Stands on solver, and on io to write.
+// Stands on solver.
+#![tactic(auto)]
+
 use course::{Counts, Place, Progress, Step};
-use libc::STDOUT_FILENO;
 use solver::{Counting, Filling, Solving, Starting, Stepping};
+use std::io;
 use verdict::Refusal;
 
 pub mod call;
 
 // An answer, or the place of a record, as a word and up to four numbers. Unused numbers are 0, so that two can be compared.
-#[derive(Drop)]
+#[derive(Clone, Copy)]
 pub struct Words {
     pub word: u64,
     pub a: u64,
@@ -152,106 +154,105 @@ pub fn of_place(p: Place) -> Words {
     }
 }
 
-pub fn text(words: &[u8]) {
-    io::write_all(STDOUT_FILENO, words);
+pub fn text(out: &impl Print, words: &str) -> io::Result<()> {
+    out.print(words)
 }
 
 // Words, and a number after them in decimal.
-pub fn number(words: &[u8], n: u64) {
-    text(words);
-    io::print_decimal(STDOUT_FILENO, n);
+pub fn number(out: &impl Print, words: &str, n: u64) -> io::Result<()> {
+    print!(out; "{words}{n}")
 }
 
 // A name, and bytes after it in hex.
-pub fn bytes(name: &[u8], s: &[u8]) {
-    text(name);
-    for i in 0..s.len() {
-        text(b" ");
-        io::print_hex(STDOUT_FILENO, wide(s[i]), 2);
+pub fn bytes(out: &impl Print, name: &str, s: &[u8]) -> io::Result<()> {
+    text(out, name)?;
+    for x in s {
+        print!(out; " {x:02x}")?;
     }
+    Ok(())
 }
 
 // A lent buffer: its name, its length and its bytes.
-pub fn buffer(name: &[u8], s: &[u8]) {
-    number(name, s.len() as u64);
-    bytes(b":", s);
-    text(b"; ");
+pub fn buffer(out: &impl Print, name: &str, s: &[u8]) -> io::Result<()> {
+    number(out, name, s.len() as u64)?;
+    bytes(out, ":", s)?;
+    text(out, "; ")
 }
 
 // Refusals 6 and 12 tell a cell.
-fn say_refused(t: Words) {
-    number(b"refused ", t.a);
+fn say_refused(out: &impl Print, t: Words) -> io::Result<()> {
+    number(out, "refused ", t.a)?;
     if t.a == 6 || t.a == 12 {
-        number(b", row ", t.b);
-        number(b", column ", t.c);
-        number(b", share ", t.d);
+        number(out, ", row ", t.b)?;
+        number(out, ", column ", t.c)?;
+        number(out, ", share ", t.d)
     } else {
-        number(b", detail ", t.b);
+        number(out, ", detail ", t.b)
     }
 }
 
 // An answer.
-pub fn say(t: Words) {
+pub fn say(out: &impl Print, t: Words) -> io::Result<()> {
     let word = t.word;
     match word {
-        REFUSED => say_refused(t),
-        FRESH => text(b"fresh"),
+        REFUSED => say_refused(out, t),
+        FRESH => text(out, "fresh"),
         COUNTS => {
-            number(b"", t.a);
-            number(b" ", t.b);
-            number(b" ", t.c);
+            number(out, "", t.a)?;
+            number(out, " ", t.b)?;
+            number(out, " ", t.c)
         }
-        FILLED => text(b"filled"),
-        SOLVED => text(b"solved"),
-        STOPPED => number(b"stopped ", t.a),
-        MOVED => text(b"moved"),
+        FILLED => text(out, "filled"),
+        SOLVED => text(out, "solved"),
+        STOPPED => number(out, "stopped ", t.a),
+        MOVED => text(out, "moved"),
         OPENED => {
-            number(b"opened x_", t.a);
-            number(b" = ", t.b);
+            number(out, "opened x_", t.a)?;
+            number(out, " = ", t.b)
         }
-        _ => number(b"done, x_1 = ", t.a),
+        _ => number(out, "done, x_1 = ", t.a),
     }
 }
 
-fn pair(name: &[u8], j: u64, k: u64) {
-    number(name, j);
-    number(b",", k);
-    text(b")");
+fn pair(out: &impl Print, name: &str, j: u64, k: u64) -> io::Result<()> {
+    number(out, name, j)?;
+    number(out, ",", k)?;
+    text(out, ")")
 }
 
-fn single(name: &[u8], j: u64) {
-    number(name, j);
-    text(b")");
+fn single(out: &impl Print, name: &str, j: u64) -> io::Result<()> {
+    number(out, name, j)?;
+    text(out, ")")
 }
 
-pub fn say_place(t: Words) {
+pub fn say_place(out: &impl Print, t: Words) -> io::Result<()> {
     let word = t.word;
     match word {
-        MIX => pair(b"Mix(", t.a, t.b),
-        CHECK => single(b"Check(", t.a),
-        SCALE => single(b"Scale(", t.a),
-        CLEAR => pair(b"Clear(", t.a, t.b),
-        OPEN => single(b"Open(", t.a),
-        LIFT => single(b"Lift(", t.a),
-        STOPPED => single(b"Stopped(", t.a),
-        _ => text(b"Done"),
+        MIX => pair(out, "Mix(", t.a, t.b),
+        CHECK => single(out, "Check(", t.a),
+        SCALE => single(out, "Scale(", t.a),
+        CLEAR => pair(out, "Clear(", t.a, t.b),
+        OPEN => single(out, "Open(", t.a),
+        LIFT => single(out, "Lift(", t.a),
+        STOPPED => single(out, "Stopped(", t.a),
+        _ => text(out, "Done"),
     }
 }
 
-pub fn order(field: u64, shares: u64, size: u64) {
-    number(b"field ", field);
-    number(b", shares ", shares);
-    number(b", size ", size);
+pub fn order(out: &impl Print, field: u64, shares: u64, size: u64) -> io::Result<()> {
+    number(out, "field ", field)?;
+    number(out, ", shares ", shares)?;
+    number(out, ", size ", size)
 }
 
-pub fn record(p: Progress) {
-    text(b"record ");
-    order(p.field, p.shares, p.size);
+pub fn record(out: &impl Print, p: Progress) -> io::Result<()> {
+    text(out, "record ")?;
+    order(out, p.field, p.shares, p.size)?;
     let place = p.place;
-    text(b", at ");
-    say_place(of_place(place));
-    number(b", taken ", p.mask);
-    number(b" and ", p.nonzero);
+    text(out, ", at ")?;
+    say_place(out, of_place(place))?;
+    number(out, ", taken ", p.mask)?;
+    number(out, " and ", p.nonzero)
 }
 
 pub fn same_record(p: Progress, q: Progress) -> bool {

@@ -1,13 +1,16 @@
 // The program solves: regular and singular systems through deal, solve, start and step, each by the whole solve and again by single steps.
 // Stands on solver, and on show to print. Its file stdout is printed by tests/vectors/solves.c from an independent model of 01.
+#![tactic(auto)]
+
 use course::{Order, Place, Progress};
 use solver::{Starting, Stepping, Wanting};
+use std::io;
 
 // The nonzero draws of F16, each once; the largest system takes as many.
 const NONZERO: [u8; 15] = *b"\xba\x9f\x16\x53\xc1\x8d\x72\x2e\xe9\x34\x0b\xf7\x65\xd8\x4c";
 
 // A run of single steps: its record, and the draws taken from each tape.
-#[derive(Drop)]
+#[derive(Clone, Copy)]
 struct Run {
     record: Progress,
     mask: usize,
@@ -60,45 +63,72 @@ fn bytes_of(entries: usize, shares: u64) -> usize {
     }
 }
 
-fn show_left(table: &[u8], x: &[u8]) {
-    show::bytes(b"  table", table);
-    show::bytes(b"\n  solution", x);
-    show::text(b"\n");
+fn show_left(out: &impl Print, table: &[u8], x: &[u8]) -> io::Result<()> {
+    show::bytes(out, "  table", table)?;
+    show::bytes(out, "\n  solution", x)?;
+    show::text(out, "\n")
 }
 
 // The solve of a dealt table.
-fn whole(o: Order, table: &mut [u8], x: &mut [u8], mask: &[u8]) {
+fn whole(
+    out: &impl Print,
+    o: Order,
+    table: &mut [u8],
+    x: &mut [u8],
+    mask: &[u8],
+) -> io::Result<()> {
     let a = solver::solve(o.field, o.shares, o.size, table, x, mask, &NONZERO);
-    show::say(show::verdict(a));
-    show::text(b": ");
-    show::say(show::taken(a));
-    show::text(b"\n");
-    show_left(table, x);
+    show::say(out, show::verdict(a))?;
+    show::text(out, ": ")?;
+    show::say(out, show::taken(a))?;
+    show::text(out, "\n")?;
+    show_left(out, table, x)
 }
 
 // The table is shown after each step where it is small, and after the last one where it is not.
-fn show_step(place: Place, answer: Stepping, table: &[u8], size: usize) {
-    show::say_place(show::of_place(place));
-    show::text(b": ");
-    show::say(show::of_stepping(answer));
+fn show_step(
+    out: &impl Print,
+    place: Place,
+    answer: Stepping,
+    table: &[u8],
+    size: usize,
+) -> io::Result<()> {
+    show::say_place(out, show::of_place(place))?;
+    show::text(out, ": ")?;
+    show::say(out, show::of_stepping(answer))?;
     if size <= 3 {
-        show::bytes(b"; table", table);
+        show::bytes(out, "; table", table)?;
     }
-    show::text(b"\n");
+    show::text(out, "\n")
 }
 
 // The step at p, and the record after it.
-fn act(p: Progress, table: &mut [u8], x: &mut [u8], mask: &[u8], nonzero: &[u8]) -> Progress {
+fn act(
+    out: &impl Print,
+    p: Progress,
+    table: &mut [u8],
+    x: &mut [u8],
+    mask: &[u8],
+    nonzero: &[u8],
+) -> io::Result<Progress> {
     let place = p.place;
     let s = solver::step(p, table, x, mask, nonzero);
     let answer = s.answer;
     let next = s.next;
-    show_step(place, answer, table, x.len());
-    next
+    show_step(out, place, answer, table, x.len())?;
+    Ok(next)
 }
 
 // A step that is lent so many draws, of each tape from where the run has come to.
-fn lend(r: Run, draws: usize, others: usize, table: &mut [u8], x: &mut [u8], mask: &[u8]) -> Run {
+fn lend(
+    out: &impl Print,
+    r: Run,
+    draws: usize,
+    others: usize,
+    table: &mut [u8],
+    x: &mut [u8],
+    mask: &[u8],
+) -> io::Result<Run> {
     let p = r.record;
     let a = r.mask;
     let b = r.nonzero;
@@ -117,70 +147,111 @@ fn lend(r: Run, draws: usize, others: usize, table: &mut [u8], x: &mut [u8], mas
     let d = a + draws;
     let e = b + others;
     let nonzero = NONZERO;
-    let record = act(p, table, x, &mask[a..d], &nonzero[b..e]);
-    Run {
+    let record = act(out, p, table, x, &mask[a..d], &nonzero[b..e])?;
+    Ok(Run {
         record,
         mask: d,
         nonzero: e,
-    }
+    })
 }
 
 // One step, lent what its record wants. A record that has ended wants nothing, and the run stays as it is.
-fn one(r: Run, table: &mut [u8], x: &mut [u8], mask: &[u8]) -> Run {
+fn one(out: &impl Print, r: Run, table: &mut [u8], x: &mut [u8], mask: &[u8]) -> io::Result<Run> {
     let p = r.record;
     match solver::wanted(p) {
-        Wanting::Wanted(draws, others) => lend(r, draws, others, table, x, mask),
-        Wanting::Refused(_) => r,
+        Wanting::Wanted(draws, others) => lend(out, r, draws, others, table, x, mask),
+        Wanting::Refused(_) => Ok(r),
     }
 }
 
 // All steps of the list: the largest one has 39.
-fn steps(p: Progress, table: &mut [u8], x: &mut [u8], mask: &[u8]) {
+fn steps(
+    out: &impl Print,
+    p: Progress,
+    table: &mut [u8],
+    x: &mut [u8],
+    mask: &[u8],
+) -> io::Result<()> {
     let mut r = Run {
         record: p,
         mask: 0,
         nonzero: 0,
     };
     for _ in 0usize..39 {
-        r = one(r, table, x, mask);
+        r = one(out, r, table, x, mask)?;
     }
+    Ok(())
 }
 
-fn solve_in(o: Order, values: &[u8], table: &mut [u8], x: &mut [u8], draws: &[u8], mask: &[u8]) {
+fn solve_in(
+    out: &impl Print,
+    o: Order,
+    values: &[u8],
+    table: &mut [u8],
+    x: &mut [u8],
+    draws: &[u8],
+    mask: &[u8],
+) -> io::Result<()> {
     solver::deal(o.field, o.shares, o.size, values, table, draws);
-    show::bytes(b"  table", table);
-    show::text(b"\n");
-    whole(o, table, x, mask);
+    show::bytes(out, "  table", table)?;
+    show::text(out, "\n")?;
+    whole(out, o, table, x, mask)
 }
 
-fn step_in(o: Order, values: &[u8], table: &mut [u8], x: &mut [u8], draws: &[u8], mask: &[u8]) {
+fn step_in(
+    out: &impl Print,
+    o: Order,
+    values: &[u8],
+    table: &mut [u8],
+    x: &mut [u8],
+    draws: &[u8],
+    mask: &[u8],
+) -> io::Result<()> {
     let Starting::Fresh(p) = solver::start(o.field, o.shares, o.size) else {
-        return;
+        return Ok(());
     };
     solver::deal(o.field, o.shares, o.size, values, table, draws);
-    steps(p, table, x, mask);
-    show_left(table, x);
+    steps(out, p, table, x, mask)?;
+    show_left(out, table, x)
 }
 
 // Of the arrays the table takes k bytes, and the solution m.
-fn by_solve(o: Order, k: usize, m: usize, values: &[u8], draws: &[u8], mask: &[u8]) {
+fn by_solve(
+    out: &impl Print,
+    o: Order,
+    k: usize,
+    m: usize,
+    values: &[u8],
+    draws: &[u8],
+    mask: &[u8],
+) -> io::Result<()> {
     let mut table = [0u8; 120];
     let mut x = [0xeeu8; 5];
     if k <= 120 && m <= 5 {
-        solve_in(o, values, &mut table[0..k], &mut x[0..m], draws, mask);
+        solve_in(out, o, values, &mut table[0..k], &mut x[0..m], draws, mask)?;
     }
+    Ok(())
 }
 
-fn by_steps(o: Order, k: usize, m: usize, values: &[u8], draws: &[u8], mask: &[u8]) {
+fn by_steps(
+    out: &impl Print,
+    o: Order,
+    k: usize,
+    m: usize,
+    values: &[u8],
+    draws: &[u8],
+    mask: &[u8],
+) -> io::Result<()> {
     let mut table = [0u8; 120];
     let mut x = [0xeeu8; 5];
     if k <= 120 && m <= 5 {
-        step_in(o, values, &mut table[0..k], &mut x[0..m], draws, mask);
+        step_in(out, o, values, &mut table[0..k], &mut x[0..m], draws, mask)?;
     }
+    Ok(())
 }
 
 // One system both ways, from the same draws: the largest one takes 90 for Deal, and 1515.
-fn system(field: u64, shares: u64, values: &[u8]) {
+fn system(out: &impl Print, field: u64, shares: u64, values: &[u8]) -> io::Result<()> {
     let m = size_of(values.len());
     let k = bytes_of(values.len(), shares);
     let size = m as u64;
@@ -193,64 +264,80 @@ fn system(field: u64, shares: u64, values: &[u8]) {
     let mut mask = [0u8; 1515];
     fill(&mut draws, 0);
     fill(&mut mask, start_of(o));
-    show::order(field, shares, size);
-    show::bytes(b": values", values);
-    show::text(b"\n");
-    by_solve(o, k, m, values, &draws, &mask);
-    by_steps(o, k, m, values, &draws, &mask);
+    show::order(out, field, shares, size)?;
+    show::bytes(out, ": values", values)?;
+    show::text(out, "\n")?;
+    by_solve(out, o, k, m, values, &draws, &mask)?;
+    by_steps(out, o, k, m, values, &draws, &mask)
 }
 
 // A system in two, three and four shares.
-fn shared(field: u64, values: &[u8]) {
-    system(field, 2, values);
-    system(field, 3, values);
-    system(field, 4, values);
+fn shared(out: &impl Print, field: u64, values: &[u8]) -> io::Result<()> {
+    system(out, field, 2, values)?;
+    system(out, field, 3, values)?;
+    system(out, field, 4, values)
 }
 
 // For each field and size a system with one solution, whose first pivot is 0 but in size 1, and a singular one.
-fn main() {
-    shared(16, b"\x02\x03");
-    shared(16, b"\x00\x03");
-    shared(16, b"\x00\x01\x05\x01\x00\x07");
-    shared(16, b"\x01\x02\x01\x02\x04\x02");
-    shared(16, b"\x00\x00\x03\x07\x02\x00\x01\x05\x01\x04\x09\x06");
-    shared(16, b"\x00\x00\x03\x07\x02\x02\x01\x05\x01\x01\x09\x06");
+fn main(rt: HostRuntime) -> io::Result<()> {
+    shared(&rt, 16, b"\x02\x03")?;
+    shared(&rt, 16, b"\x00\x03")?;
+    shared(&rt, 16, b"\x00\x01\x05\x01\x00\x07")?;
+    shared(&rt, 16, b"\x01\x02\x01\x02\x04\x02")?;
+    shared(&rt, 16, b"\x00\x00\x03\x07\x02\x00\x01\x05\x01\x04\x09\x06")?;
+    shared(&rt, 16, b"\x00\x00\x03\x07\x02\x02\x01\x05\x01\x01\x09\x06")?;
     shared(
+        &rt,
         16,
         b"\x00\x0c\x00\x0f\x0e\x00\x0f\x06\x04\x02\x01\x07\x0f\x00\x0d\x03\x08\x01\x00\x0d",
-    );
+    )?;
     shared(
+        &rt,
         16,
         b"\x03\x00\x03\x0b\x03\x00\x0f\x0f\x03\x00\x06\x0a\x0c\x06\x06\x08\x03\x0b\x05\x00",
-    );
+    )?;
     shared(
+        &rt,
         16,
         b"\x00\x07\x0d\x07\x02\x0c\x00\x04\x00\x00\x06\x00\x00\x0c\x06\x00\x02\x09\x0f\x05\x00\x05\x05\x02\x0c\x08\x01\x0a\x07\x0c",
-    );
+    )?;
     shared(
+        &rt,
         16,
         b"\x0e\x0b\x01\x00\x0b\x0e\x0c\x03\x0d\x03\x00\x07\x08\x00\x03\x00\x00\x06\x05\x0f\x07\x09\x06\x08\x00\x08\x0d\x09\x01\x06",
-    );
-    shared(256, b"\x57\xc1");
-    shared(256, b"\x00\xc1");
-    shared(256, b"\x00\x57\x83\xc1\x13\xfe");
-    shared(256, b"\x57\xae\x13\x83\x1d\x11");
-    shared(256, b"\x00\x00\xa3\x7e\x57\x00\xc1\x83\x13\x2f\x09\x5a");
-    shared(256, b"\x57\x13\x44\x09\xc1\x83\x42\xfe\xfe\x2f\xd1\x11");
+    )?;
+    shared(&rt, 256, b"\x57\xc1")?;
+    shared(&rt, 256, b"\x00\xc1")?;
+    shared(&rt, 256, b"\x00\x57\x83\xc1\x13\xfe")?;
+    shared(&rt, 256, b"\x57\xae\x13\x83\x1d\x11")?;
     shared(
+        &rt,
+        256,
+        b"\x00\x00\xa3\x7e\x57\x00\xc1\x83\x13\x2f\x09\x5a",
+    )?;
+    shared(
+        &rt,
+        256,
+        b"\x57\x13\x44\x09\xc1\x83\x42\xfe\xfe\x2f\xd1\x11",
+    )?;
+    shared(
+        &rt,
         256,
         b"\x00\x4f\xb5\xd6\xc6\x00\xf5\x00\x95\x00\xc7\xac\x4a\xa6\x5c\xa5\xf1\x5a\x00\xde",
-    );
+    )?;
     shared(
+        &rt,
         256,
         b"\xfa\x56\xac\x00\x5d\x00\xb2\xb2\x2c\xf0\xab\x00\xab\xa4\xff\x29\xa0\x89\x2f\x0b",
-    );
+    )?;
     shared(
+        &rt,
         256,
         b"\x00\x00\xe5\x52\x00\x8d\x00\xaa\x98\xb8\x00\x68\x00\x00\x00\x8d\x0a\x4e\x8c\xf4\xf6\x22\xd1\x8a\x25\x62\xf6\x23\x5a\xaa",
-    );
+    )?;
     shared(
+        &rt,
         256,
         b"\x1c\xeb\x25\xe1\x0a\x6f\x00\x7b\x00\xf7\x8c\x99\xfc\x41\x52\x00\x41\x7b\xa9\x72\x0b\xd4\xa6\x47\x7a\x3f\xd9\xfe\xc1\x7a",
-    );
+    )
 }
