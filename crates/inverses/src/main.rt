@@ -3,6 +3,8 @@
 // gives.
 #![tactic(auto)]
 
+use std::io;
+
 // The system's tapes: 3 and on in steps of 5, and 7 and on in steps of 9, modulo 256.
 const DRAWS: [u8; 6] = *b"\x03\x08\x0d\x12\x17\x1c";
 

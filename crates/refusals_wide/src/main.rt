@@ -632,7 +632,8 @@ fn end_run(out: &impl Print, t: &[u8; 16], x: &[u8; 3]) -> io::Result<()> {
 
 fn twelve(out: &impl Print, t: &mut [u8], x: &mut [u8]) -> io::Result<()> {
     let p = four(out, begun(), t, x)?;
-    eight(out, p, t, x)
+    eight(out, p, t, x)?;
+    Ok(())
 }
 
 fn eight(
@@ -672,7 +673,7 @@ fn turn(out: &impl Print, p: WideProgress, t: &mut [u8], x: &mut [u8]) -> io::Re
     let a = MASK;
     let b = NONZERO;
     let WideCounting::Wanted(mask, nonzero) = wide::wanted(p) else {
-        return p;
+        return Ok(p);
     };
     let ds = part(&a[..], p.mask as usize, mask);
     let zs = part(&b[..], p.nonzero as usize, nonzero);

@@ -133,16 +133,16 @@ fn lend(
     let a = r.mask;
     let b = r.nonzero;
     if mask.len() < a {
-        return r;
+        return Ok(r);
     }
     if mask.len() - a < draws {
-        return r;
+        return Ok(r);
     }
     if 15 < b {
-        return r;
+        return Ok(r);
     }
     if 15 - b < others {
-        return r;
+        return Ok(r);
     }
     let d = a + draws;
     let e = b + others;
