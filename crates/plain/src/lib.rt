@@ -2,6 +2,8 @@
 // order. NOT FOR SECRETS: its branches and its addresses depend on the values. Stands on table and verdict.
 // The entry call is `solve`: it takes any numbers and any slices, does all its own checking, and promises by one equation its answer and every
 // lent byte. The values are copied and only read; the copy is a table of m rows and m + 1 columns, one byte an entry.
+#![tactic(auto)]
+
 ghost use Rattle.std.specs.Prelude.{◌≡◌, ◌+◌, ◌-◌, ◌≤◌, length, take};
 ghost use Rattle.sharing.specs.Bounds.{most_rows};
 ghost use Rattle.table.specs.Layout.{table_bytes, row_from, put_row};
