@@ -1,5 +1,7 @@
 // The course of a wide solve (R-8): its progress record, which keeps the pivots found, the next place, the places that pivots can have, and what the
 // steps draw by the pattern of the pivots. Stands on course, for the steps and their costs.
+#![tactic(auto)]
+
 ghost use Rattle.std.specs.Prelude.{◌≡◌, true, ◌&&◌, ◌+◌, ◌-◌, ◌*◌, ◌≤◌, ◌<◌, ltb, leb, eqb, length, get_or};
 ghost use Rattle.field.specs.Field.{pick};
 ghost use Rattle.sharing.specs.Bounds.{most_rows, most_columns, most_draws};
@@ -15,7 +17,7 @@ ghost use Rattle.pattern.specs.Code.Columns.{from, most_column, mixing, clearing
 use course::{Draws, Step};
 
 // Field, shares, rows and columns, as an order form has them.
-#[derive(Drop)]
+#[derive(Clone, Copy)]
 pub struct WideOrder {
     pub field: u64,
     pub shares: u64,
@@ -23,7 +25,7 @@ pub struct WideOrder {
     pub columns: u64,
 }
 
-#[derive(Drop)]
+#[derive(Clone, Copy)]
 pub enum WidePlace {
     At(Step),
     Short,
@@ -31,14 +33,14 @@ pub enum WidePlace {
 }
 
 // The pivots found, ascending: the first `found` of the slots, and 0 in the others.
-#[derive(Drop)]
+#[derive(Clone, Copy)]
 pub struct Pivots {
     pub found: u64,
     pub columns: [u8; 96],
 }
 
 // The progress record, with the draws taken so far and the pivots found.
-#[derive(Drop)]
+#[derive(Clone, Copy)]
 pub struct WideProgress {
     pub order: WideOrder,
     pub place: WidePlace,

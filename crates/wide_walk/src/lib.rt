@@ -1,4 +1,6 @@
 // The work behind the wide calls (R-8), after their checks: one step, and the whole solve. Stands on pattern, walk and table.
+#![tactic(auto)]
+
 ghost use Rattle.std.specs.Prelude.{◌≡◌, true, ◌+◌, ◌≤◌, length};
 ghost use Rattle.table.specs.Layout.{table_bytes};
 ghost use Rattle.pattern.specs.declared.WidePlace.TheVariants.{At};
@@ -12,7 +14,7 @@ use course::{Counts, Step};
 use pattern::{Pivots, WideOrder, WidePlace, WideProgress};
 
 // How a wide solve ends, with the steps, mask draws and nonzero draws taken.
-#[derive(Drop)]
+#[derive(Clone, Copy)]
 pub enum WideEnding {
     Solved(Counts),
     Short(Counts),
