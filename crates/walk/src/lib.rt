@@ -1,5 +1,6 @@
 // The work behind the public calls, after their checks: one step of the list, the whole solve as a walk over the list, dealing and gathering.
 // Stands on course and table.
+#![tactic(auto)]
 
 ghost use Rattle.std.specs.Prelude.{true, ◌≡◌, ◌+◌, ◌-◌, ◌*◌, ◌≤◌, length};
 ghost use Rattle.field.specs.Field.{field_of};
