@@ -2,7 +2,7 @@
 -- number and the tapes are. Of one order they also count alike.
 -- Assumes nothing.
 use mathlib.Core.Path.{◌≡◌, sym, ap, ap₂, ◌∙◌, subst}
-use Prim.Native.Nat.{ℕ, ◌-◌}
+use Prim.Native.Nat.{ℕ}
 use mathlib.Core.List.{List}
 use Rattle.field.specs.Field.{Ops, field_of}
 use Rattle.field.proofs.Fields.{field_of_lem}

@@ -1,12 +1,10 @@
 -- Independence as an answer means it, that no column is a combination of those before it, is independence in the usual sense: only the
 -- factors 0 make the columns add up to 0.
 -- Assumes nothing.
-use mathlib.Core.Path.{◌≡◌}
-use Prim.Native.Nat.{ℕ, ◌%◌, ◌≤◌}
+use Prim.Native.Nat.{ℕ, ◌≤◌}
 use mathlib.Core.List.{List}
 use Rattle.field.specs.Field.{field_of}
 use Rattle.field.proofs.Fields.{field_of_lem}
-use Rattle.algebra.specs.Linear.{combination}
 use Rattle.algebra.proofs.Independent.{apart_usual, usual_apart}
 use Rattle.course.specs.declared.Order.{Order}
 use Rattle.meaning.specs.Meaning.{value_of, Apart}

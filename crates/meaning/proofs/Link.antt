@@ -1,11 +1,11 @@
 -- What each step does to the values is what algebra says of it, whatever the shares and the draws are.
 -- Assumes nothing.
-use mathlib.Core.Path.{◌≡◌, ap, ◌∙◌}
-use Prim.Native.Nat.{ℕ, ◌+◌, ◌-◌, ◌<◌}
+use mathlib.Core.Path.{◌≡◌}
+use Prim.Native.Nat.{ℕ, ◌-◌, ◌<◌}
 use mathlib.Core.List.{List}
 use native.Mathlib.Omega.{arith}
 use lib.ListN.{length}
-use Rattle.field.specs.Field.{sub, field_of}
+use Rattle.field.specs.Field.{field_of}
 use Rattle.field.proofs.Fields.{field_of_lem}
 use Rattle.sharing.specs.Rules.{draw_at}
 use Rattle.flag.specs.Flag.{flag_of}

@@ -6,7 +6,7 @@ use Rattle.course.specs.declared.Order.{Order}
 use Rattle.course.specs.declared.Step.TheVariants.{Open, Lift}
 use Rattle.course.specs.StepList.{step_list}
 use Rattle.walk.specs.Act.{Held, held, opened, acted}
-use Rattle.walk.specs.Walk.{Tally, Course, running, stopped, walk, fresh}
+use Rattle.walk.specs.Walk.{Course, running, stopped, walk, fresh}
 use Rattle.walk.specs.Dealing.{dealt}
 use Rattle.starred.specs.Rows.{Row, row, Holds, order, definitions}
 use Rattle.starred.specs.Vectors.{bytes}
