@@ -1,6 +1,7 @@
 -- `flag::sum_of` meets its contract. The loop's invariant: out is a run of the turns of i's pairs so far.
 -- Assumes nothing.
 use mathlib.Core.Path.{refl}
+use Prim.Native.Nat.{ℕ}
 use native.Mathlib.Omega.{arith}
 use lib.ListN.{length-set}
 use Rattle.flag.specs.Code.Passes.{sum_turn}
@@ -22,10 +23,10 @@ pub bounds-y-k : goal.bounds-y-k
 bounds-y-k c = omega (arith, pairs_room c.args.n c.args.i (omega arith))
 
 pub bounds-out-j : goal.bounds-out-j
-bounds-out-j c = simp length-set (omega arith)
+bounds-out-j c = omega (arith, length-set {A = ℕ})
 
 pub bounds-out-j-in-loop-v : goal.bounds-out-j-in-loop-v
-bounds-out-j-in-loop-v c = simp length-set (omega arith)
+bounds-out-j-in-loop-v c = omega (arith, length-set {A = ℕ})
 
 pub loop-v-preserved : goal.loop-v-preserved
 unfolding sum_turn
