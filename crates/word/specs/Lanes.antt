@@ -1,7 +1,6 @@
 -- A word of 64 bits is eight lanes of a byte each.
 -- Assumes nothing.
-use Rattle.std.specs.Prelude.{◌≡◌, ℕ, zero, suc, ◌+◌, ◌*◌, ◌/◌, ◌%◌, ◌^◌, ◌<◌, List, get_or}
-use Rattle.field.specs.Field.{pick}
+use Rattle.std.specs.Prelude.{◌≡◌, ℕ, zero, suc, ◌*◌, ◌/◌, ◌%◌, ◌^◌, ◌<◌}
 use Rattle.row.specs.Code.Streams.{doubled}
 
 -- lane l of w, from 0: bits 8l to 8l + 7

@@ -1,5 +1,8 @@
 // A row of shares in words of eight lanes, a byte each: single entries, and the last columns as bytes. Stands on row for the doubles that its
 // definitions name. A row in words is drawn in specs/Rows.
+
+#![tactic(auto)]
+
 ghost use Rattle.std.specs.Prelude.{◌≡◌, ◌+◌, ◌-◌, ◌*◌, ◌/◌, ◌%◌, ◌^◌, ◌<◌, ◌≤◌, length};
 ghost use Rattle.sharing.specs.Run.{tab};
 ghost use Rattle.sharing.specs.Bounds.{most_columns};
