@@ -1,5 +1,8 @@
 // What is prepared of a row in words and of a factor, so that a product is a choice for each bit of the factor: each word and its doubles side by
 // side, and masks of ones or zeros. With one bit a row's words are copied as they are, for a factor whose shares are 0 or 1. Stands on word.
+
+#![tactic(auto)]
+
 ghost use Rattle.std.specs.Prelude.{◌≡◌, ◌+◌, ◌*◌, ◌≤◌, length};
 ghost use Rattle.sharing.specs.Bounds.{most_columns};
 ghost use Rattle.word.specs.Rows.{words_of, Prepared, Masked};

@@ -1,4 +1,7 @@
 // Columns of bytes, n to a column, into words: the shares of a row of the table, or the draws of a row. Stands on word.
+
+#![tactic(auto)]
+
 ghost use Rattle.std.specs.Prelude.{◌≡◌, ◌+◌, ◌-◌, ◌*◌, ◌/◌, ◌%◌, ◌<◌, ◌≤◌, length, get_or};
 ghost use Rattle.field.specs.Field.{pick};
 ghost use Rattle.sharing.specs.Bounds.{most_columns};
@@ -45,7 +48,7 @@ fn four_at(d: &[u8], o: usize, m: usize) -> u64
         + both(d[o + 3 * m], d[o + 3 * m + 1]) * 0x1000000000000
 }
 
-#[derive(Drop)]
+#[derive(Clone, Copy)]
 struct Two {
     x: u64,
     y: u64,

@@ -1,5 +1,8 @@
 // A row of words += Product(factor, another row): the products of all pairs of shares, as choices by what `choice` prepared, and their sums with
 // the draws, in 01's order. Stands on word, and on row for the laws of Product.
+
+#![tactic(auto)]
+
 ghost use Rattle.std.specs.Prelude.{◌≡◌, suc, ◌+◌, ◌-◌, ◌*◌, ◌<◌, ◌≤◌, length};
 ghost use Rattle.std.specs.Int.Bits.{bit_xor};
 ghost use Rattle.sharing.specs.Run.{run, before, pairs};

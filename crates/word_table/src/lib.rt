@@ -1,6 +1,9 @@
 // The steps that take most of a whole solve, on a table in words: Mix, Check, Scale and Clear. Stands on plane, dealing, choice and word for the words,
 // and on table for what the steps are. A table in words stands for a table of bytes (specs/Table), and each step does to that table what table's
 // own step does.
+
+#![tactic(auto)]
+
 ghost use Rattle.std.specs.Prelude.{false, ◌≡◌, ◌+◌, ◌-◌, ◌*◌, ◌<◌, ◌≤◌, length};
 ghost use Rattle.field.specs.Field.{field_of, bits};
 ghost use Rattle.sharing.specs.Run.{pairs};
