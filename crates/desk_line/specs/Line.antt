@@ -1,6 +1,7 @@
 -- 01, "desk reads standard input": the line that desk prints, for every input.
 -- Assumes nothing.
-use Rattle.std.specs.Prelude.{List, ◌++◌, ◌≡◌, ℕ, ◌+◌, ◌*◌, eqb, length, get_or, take, drop}
+use Rattle.std.specs.Prelude.{List, ◌++◌, ◌≡◌, ℕ, ◌+◌, ◌*◌, ◌≤◌, ◌<◌, eqb, length, get_or, take, drop, Option}
+use Rattle.std.specs.Io.KnownBytes.{Consumes, IsAtEnd}
 use Rattle.field.specs.Field.{pick}
 use Rattle.course.specs.declared.Counts.{Counts}
 use Rattle.verdict.specs.Calls.{Says, refuses, gives}
@@ -40,3 +41,10 @@ pub record Wrote (buffer : List ℕ) (at : ℕ) (text : List ℕ) (left : List �
 pub record Made (buffer : List ℕ) (line : List ℕ) (left : List ℕ) (r : ℕ) : Type 0 where
   pub bytes : left ≡ line ++ drop (length line) buffer
   pub count : r ≡ length line
+
+-- what a reader of an input's front has done that answered n, with the buffer as it left it: the first n bytes of the buffer were taken from what the
+-- reader had left, and where they don't fill the buffer, it has none left
+pub record ReadFront (had left : Option (List ℕ)) (buffer : List ℕ) (n : ℕ) : Type 0 where
+  pub within : n ≤ length buffer
+  pub taken : Consumes had left (take n buffer)
+  pub ended : n < length buffer → IsAtEnd left

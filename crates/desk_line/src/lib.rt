@@ -2,11 +2,12 @@
 // the digits.
 #![tactic(auto)]
 
-ghost use Rattle.std.specs.Prelude.{[], ◌∷◌, ◌++◌, ◌≡◌, ◌+◌, ◌≤◌, length, IfOk};
-ghost use Rattle.io.specs.Counts.{IsPrefixLen as Counts·within};
+ghost use Rattle.std.specs.Prelude.{[], ◌∷◌, ◌++◌, ◌≡◌, ◌+◌, ◌≤◌, length, IfOk, OnOk, IfSome};
+ghost use Rattle.std.specs.Io.KnownBytes.{Appends};
+ghost use Rattle.io.specs.Counts.{IsPrefixLen};
 ghost use Rattle.verdict.specs.Refusals.{paper};
 ghost use Rattle.desk_line.specs.Text.{decimal};
-ghost use Rattle.desk_line.specs.Line.{refused_line, counts_line, desk_line, Wrote, Made};
+ghost use Rattle.desk_line.specs.Line.{refused_line, counts_line, desk_line, Wrote, Made, ReadFront};
 
 use course::Counts;
 use solver::Counting;
@@ -75,7 +76,7 @@ fn wide(x: u8) -> u64
 // the answer and every byte of out; the second follows from it, and lets a caller lend the line with no proof of its own.
 pub fn line(input: &[u8], out: &mut [u8; 64]) -> usize
     ensures made { Made out.old (desk_line input.now) out.new result }
-    ensures counts_within { Counts·within result out.new }
+    ensures counts_within { IsPrefixLen result out.new }
 {
     if input.len() != 4 {
         return refused(13, out);
@@ -87,13 +88,12 @@ pub fn line(input: &[u8], out: &mut [u8; 64]) -> usize
     }
 }
 
-// Reads until input is full or the reader has come to its end, and answers how many bytes it put at the start of input. Each read but the last
-// of these gives a byte at least.
-fn read_front(from: &mut impl Read, input: &mut [u8; 5]) -> std::io::Result<usize>
-    ensures { IfOk result (λ n. n ≤ 5) }
+// Reads until input is full or the reader has come to its end, and answers how many bytes it put at the front of input.
+fn read_front<R: Read>(from: &mut R, input: &mut [u8]) -> std::io::Result<usize>
+    ensures { IfOk result (λ n. ReadFront (R.remaining from.old) (R.remaining from.new) input.new n) }
 {
     let mut n = 0;
-    while n < 5 {
+    while n < input.len() {
         let more = from.read(&mut input[n..])?;
         if more == 0 {
             break;
@@ -103,8 +103,12 @@ fn read_front(from: &mut impl Read, input: &mut [u8; 5]) -> std::io::Result<usiz
     Ok(n)
 }
 
-// All that desk does: reads an order from a reader and prints its line to a writer. desk_run runs this function on prepared orders.
-pub fn serve(from: &mut impl Read, to: &mut impl Write) -> std::io::Result<()> {
+// All that desk does: reads an order from a reader and prints its line to a writer. Where the bytes of both are known, as in memory, the writer has
+// the line of all that the reader had. What a file or a terminal gives or takes no contract can say, so desk_run runs this function on prepared
+// orders.
+pub fn serve<R: Read, W: Write>(from: &mut R, to: &mut W) -> std::io::Result<()>
+    ensures { OnOk result (IfSome (R.remaining from.old) (λ input. Appends (W.contents to.old) (W.contents to.new) (desk_line input))) }
+{
     // a fifth byte is tried for, so that input longer than four bytes is told from four
     let mut input = [0u8; 5];
     let n = read_front(from, &mut input)?;
