@@ -12,7 +12,7 @@ use lib.Dec.{eqb, eqb→eq, lit<}
 use lib.ListN.{get_or}
 use Rattle.field.specs.Field.{pick, Field, Binary, field_of, bits}
 use Rattle.field.proofs.Xor.{bit, bit_lt}
-use Rattle.field.proofs.Linear.{Additive, at_zero, all, all-at}
+use Rattle.field.proofs.Linear.{Additive, at_zero, all-at}
 use Rattle.field.proofs.Fields.{field_of_lem}
 use Rattle.field.proofs.Inverses.{zero-mul as none-times}
 use Rattle.sharing.specs.Run.{tab}

@@ -1,3 +1,5 @@
+pub mod Orders
+pub mod Standing
 pub mod Sharewise
 pub mod Producing
 pub mod Summing

@@ -8,7 +8,7 @@ use lib.ListN.{length, get_or, length-set}
 use lib.Seq.{get_or-set_same, get_or-set_other}
 use Rattle.row.proofs.Places.{place_in, same_row, same_place}
 use Rattle.row.proofs.OneTurn.{run_keeps, run_one}
-use Rattle.row.proofs.Spreading.{Has}
+use Rattle.plane.proofs.Standing.{Has}
 use Rattle.plane.specs.Code.Products.{dot, share_turn, word_turn, all_products}
 
 module _ (bits n count : ℕ) (masks other : List ℕ) (g i : ℕ) (hg : g < count) (hi : i < n) where

@@ -8,7 +8,7 @@ use Rattle.field.proofs.Linear.{Additive, at_zero}
 use Rattle.sharing.specs.Run.{run, before, pairs}
 use Rattle.sharing.proofs.Pairs.{pair_lt}
 use Rattle.row.specs.Code.Shares.{own_draws, pair_sum, share_sum}
-use Rattle.row.proofs.ShareLaw.{joins}
+use Rattle.plane.proofs.Orders.{joins}
 
 module _ {L : ℕ → ℕ} (A : Additive L) where
   joins_of : (g h : ℕ → ℕ) (m x y : ℕ) → ((i : ℕ) → i < m → L (g i) ≡ h i) → L x ≡ y → L (joins g m x) ≡ joins h m y

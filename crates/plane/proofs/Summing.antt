@@ -12,8 +12,8 @@ use Rattle.sharing.proofs.Pairs.{run_holds}
 use Rattle.row.specs.Code.Shares.{pair_sum, share_sum}
 use Rattle.row.proofs.Places.{place_in, same_row}
 use Rattle.row.proofs.OneTurn.{run_keeps, run_one}
-use Rattle.row.proofs.Spreading.{Has, xor_keeps, xor_hits}
-use Rattle.row.proofs.ShareLaw.{joins, joins-xor, draws-last}
+use Rattle.plane.proofs.Standing.{Has, xor_keeps, xor_hits}
+use Rattle.plane.proofs.Orders.{joins, joins-xor, draws-last}
 use Rattle.plane.specs.Code.Sums.{own_turn, crossed_at, pair_turn, pairs_turn, word_sums, all_sums}
 
 -- ---- a place that the turns do not come to
