@@ -1,6 +1,6 @@
 -- What a pass means: the facts that the work of each call asks for, from the checks of its order.
 -- Assumes nothing.
-use mathlib.Core.Bool.{Bool, true, false, not, ◌&&◌, ◌||◌, false≢true}
+use mathlib.Core.Bool.{Bool, true, false, not, ◌||◌, false≢true}
 use mathlib.Core.List.{List}
 use mathlib.Core.Logic.{◌⊎◌, inl, inr, ⊎_elim}
 use mathlib.Core.Path.{◌≡◌, refl, sym, ◌∙◌}
@@ -10,7 +10,7 @@ use native.Mathlib.Nat.{mul-le-mul}
 use native.Mathlib.Omega.{arith}
 use lib.Dec.{eqb, ltb}
 use lib.ListN.{length}
-use borrow.Author.Tests.{not-true, not-false, ltb-false, eq-eqb, ne_eqb}
+use borrow.Author.Tests.{not-false, ltb-false, eq-eqb, ne_eqb}
 use Rattle.field.specs.Field.{field_of}
 use Rattle.sharing.specs.Rules.{blinded_value}
 use Rattle.sharing.specs.Lists.{Below}

@@ -12,7 +12,7 @@ use Rattle.course.specs.StepList.{draws, Revealed, None, Flag, Pivot, Unknown, r
 use Rattle.course.specs.Next.{order_of, moved_on, start_of}
 use Rattle.walk.specs.declared.Ending.{Ending}
 use Rattle.walk.specs.declared.Ending.TheVariants as E
-use Rattle.walk.specs.Act.{Held, held, opened, acted}
+use Rattle.walk.specs.Act.{Held, opened, acted}
 use Rattle.walk.specs.Walk.{Solution, solved, Counters}
 use Rattle.walk.specs.Dealing.{dealt, gathered}
 use Rattle.meaning.specs.Meaning.{Means}

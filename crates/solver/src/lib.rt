@@ -1,6 +1,8 @@
 // The public calls: start, step, solve, deal, gather, the counts of an order, and what the next step wants. Stands on walk.
 // The entry calls are `start`, `counts`, `wanted`, `deal`, `gather`, `step` and `solve`: each takes any numbers, tables and tapes, does all its own
 // checking, and promises by one equation its answer and every lent byte, refusals included.
+#![tactic(auto)]
+
 mod checks;
 
 ghost use Rattle.std.specs.Prelude.{◌≡◌};
