@@ -42,13 +42,14 @@ pub scale_bytes-length : (f n columns : ℕ) (nz ds row : List ℕ) → length r
 unfolding scale_bytes
 scale_bytes-length f n columns nz ds row l = scale_all-length (field_of f) n columns row l _ _
 
--- what scale_all leaves, of four factors and of the rest of the draws
-pub scaled-bytes : (f n columns d k : ℕ) (nz ds row fs : List ℕ) → n ≤ 4 → d ≡ inversion_draws n → k ≡ n
-    → fs ≡ four_of (factors (field_of f) nz ds (take n row))
-    → scale_all (field_of f) k columns fs (take (length ds - d) (drop d ds)) row ≡ scale_bytes f n columns nz ds row
-unfolding scale_bytes
-scaled-bytes f n columns d k nz ds row fs h ed ek ef =
-    rw (ek, ef, rest d ds, ed) (scale_all-four (field_of f) n columns (factors (field_of f) nz ds (take n row)) (drop (inversion_draws n) ds) row h)
+-- what a table of this row alone becomes
+pub scaled-bytes : (f n columns : ℕ) (nz ds row : List ℕ) → length row ≡ columns * n → scale f n columns 1 1 nz ds row ≡ scale_bytes f n columns nz ds row
+unfolding scale scale_bytes
+scaled-bytes f n columns nz ds row h =
+    let z : cell n columns 1 1 ≡ 0 = first_cell n columns in
+    let l : columns + 1 - 1 ≡ columns = omega arith in
+    rw (z, l, part-all (columns * n) row h)
+    (put_whole (columns * n) _ row h)
 
 -- a row begins with its first entry
 first_entry : (n w r j : ℕ) (t : List ℕ) → 1 ≤ columns_from w j → take n (row_from n w r j t) ≡ entry n w r j t

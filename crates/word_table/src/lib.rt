@@ -279,15 +279,13 @@ pub fn clear(
     );
 }
 
-// A row of bytes whose first entry is the pivot: each entry times the pivot's inverse, factor by factor.
+// A row of bytes whose first entry is the pivot: each entry times the pivot's inverse, factor by factor, as of a table of this row alone.
 fn scale_bytes(f: u64, n: usize, columns: usize, bytes: &mut [u8], nonzero: &[u8], mask: &[u8])
     requires le_n { (2 ≤ n) × (n ≤ 4) × (1 ≤ columns) × (columns ≤ most_columns) × (length bytes.old ≡ columns * n) }
     requires columns_in_bounds { (scale_cost n columns ≤ length mask.now) × (scale_nonzero n ≤ length nonzero.now) }
     ensures { bytes.new ≡ scale_bytes f n columns nonzero.now mask.now bytes.old }
 {
-    let d = sharing::inversion_draws(n);
-    let factors = sharing::inversion(f, &bytes[..n], nonzero, mask);
-    table::scale_all(f, columns, bytes, factors, &mask[d..]);
+    table::scale(f, n, 1, columns, bytes, 1, 1, nonzero, mask);
 }
 
 // And the last columns of a row of words, with room for their bytes.
