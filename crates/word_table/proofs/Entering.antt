@@ -2,27 +2,27 @@
 -- Assumes nothing.
 use mathlib.Core.Path.{◌≡◌, refl, sym, ap, ap₂, ◌∙◌}
 use mathlib.Core.Bool.{Bool, true, false}
-use Prim.Native.Nat.{ℕ, zero, suc, ◌+◌, ◌-◌, ◌*◌, ◌<◌, ◌≤◌}
+use Prim.Native.Nat.{ℕ, ◌+◌, ◌-◌, ◌*◌, ◌<◌, ◌≤◌}
 use mathlib.Core.List.{List}
 use native.Mathlib.Omega.{arith}
 use native.Mathlib.Decide.{dec_lt}
-use native.Mathlib.Nat.{suc-mul, mul_assoc, add-mul, mul-le-mul_right}
+use native.Mathlib.Nat.{mul_assoc, add-mul}
 use lib.ListN.{length, get_or, drop}
-use Rattle.field.specs.Field.{Ops, sub, field_of, pick, Binary}
+use Rattle.field.specs.Field.{field_of, Binary}
 use Rattle.field.proofs.Fields.{sub-add}
 use Rattle.sharing.specs.Run.{tab, pairs}
 use Rattle.sharing.specs.Rules.{product}
 use Rattle.sharing.specs.Lists.{joined}
 use Rattle.sharing.proofs.Pairs.{tab-length, tab-at, tab_ext}
-use Rattle.table.specs.Layout.{cell, table_bytes, part, put, entry, columns_from, row_from, put_row, Inside}
-use Rattle.table.specs.Steps.{signed, join_turn, join_row, over_columns}
+use Rattle.table.specs.Layout.{cell, part, put, entry, columns_from, row_from, put_row, Inside}
+use Rattle.table.specs.Steps.{signed, join_turn, join_row}
 use Rattle.table.proofs.Parts.{part_length, part-part, part-before, part_inside, put-length, put_inside, put-part}
 use Rattle.table.proofs.Cells.{column_in}
 use Rattle.table.proofs.Columns.{columns_ext, over_columns-length, over_columns-at}
 use Rattle.table.proofs.Lengths.{join_keeps}
-use Rattle.word.specs.Rows.{byte_of, words_of, bytes_of, Joined}
+use Rattle.word.specs.Rows.{byte_of, bytes_of, Joined}
 use Rattle.word_table.specs.Table.{row_words, table_of, row_at}
-use Rattle.word_table.proofs.Standing.{bytes-length, bytes-column, bytes-last, bytes_ext, table-length, table-row, table-put}
+use Rattle.word_table.proofs.Standing.{bytes-length, bytes-column, bytes-last, table-length, table-row, table-put}
 
 -- a cell lies so far behind the start of its row
 pub cell_in_row : (n w r c : ℕ) → cell n w r c ≡ (r - 1) * (w * n) + (c - 1) * n

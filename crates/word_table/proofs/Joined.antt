@@ -1,12 +1,12 @@
 -- A row of words that was joined, in the table: 01's join of two rows.
 -- Assumes nothing.
-use mathlib.Core.Path.{◌≡◌, refl, sym, ap, ap₂, ◌∙◌}
-use mathlib.Core.Bool.{Bool, true, false}
+use mathlib.Core.Path.{◌≡◌, sym, ap, ap₂, ◌∙◌}
+use mathlib.Core.Bool.{true, false}
 use Prim.Native.Nat.{ℕ, ◌+◌, ◌-◌, ◌*◌, ◌<◌, ◌≤◌}
 use mathlib.Core.List.{List, ◌++◌}
 use native.Mathlib.Omega.{arith}
 use lib.ListN.{length, get_or, take, drop}
-use Rattle.field.specs.Field.{Ring, field_of}
+use Rattle.field.specs.Field.{field_of}
 use Rattle.field.proofs.Fields.{field_of_lem, binary_of}
 use Rattle.sharing.specs.Run.{pairs}
 use Rattle.sharing.specs.Lists.{Below, joined}

@@ -2,7 +2,7 @@
 -- Assumes nothing.
 use mathlib.Core.Path.{◌≡◌, refl, sym, ap, ◌∙◌}
 use mathlib.Core.Bool.{Bool, true, false}
-use Prim.Native.Nat.{ℕ, suc, ◌+◌, ◌-◌, ◌*◌, ◌%◌, ◌<◌, ◌≤◌}
+use Prim.Native.Nat.{ℕ, ◌+◌, ◌-◌, ◌*◌, ◌%◌, ◌<◌, ◌≤◌}
 use mathlib.Core.List.{List}
 use native.Mathlib.Omega.{arith}
 use native.Mathlib.Decide.{dec_lt}
@@ -16,7 +16,7 @@ use Rattle.table.proofs.Parts.{part_at, part_length, part_same, part-before, put
 use Rattle.table.proofs.Cells.{column_in}
 use Rattle.table.proofs.Elements.{part_below}
 use Rattle.table.proofs.Columns.{columns_ext}
-use Rattle.word.specs.Rows.{byte_of, words_of, bytes_of, Dealt}
+use Rattle.word.specs.Rows.{byte_of, bytes_of, Dealt}
 use Rattle.word_table.specs.Table.{row_words, table_of, LoadedRow}
 use Rattle.word_table.proofs.Standing.{list_ext, bytes-length, bytes-at, table-length, table-row}
 use Rattle.word_table.proofs.Entering.{twice_back}

@@ -4,20 +4,19 @@ use mathlib.Core.Path.{◌≡◌, sym, ap, ◌∙◌}
 use Prim.Native.Nat.{ℕ, ◌+◌, ◌-◌, ◌*◌, ◌<◌, ◌≤◌}
 use mathlib.Core.List.{List, ◌++◌}
 use native.Mathlib.Omega.{arith}
-use native.Mathlib.Nat.{mul-le-mul_right}
+use native.Mathlib.Nat.{mul-le-mul_right, zero-mul}
 use lib.ListN.{length, get_or, take, drop}
 use Rattle.field.specs.Field.{field_of}
-use Rattle.sharing.specs.Rules.{factors, four_of, inversion_draws}
+use Rattle.sharing.specs.Rules.{factors, inversion_draws}
 use Rattle.sharing.proofs.Pairs.{tab-length, tab-at}
-use Rattle.sharing.proofs.Loops.{rest}
 use Rattle.table.specs.Layout.{cell, part, put, entry, columns_from, row_from, put_row, Inside}
 use Rattle.table.specs.Steps.{scale_all, scale}
-use Rattle.table.proofs.Parts.{part_length, part_at, part-part, part-lent, put-lent}
+use Rattle.std.proofs.lemmas.List.{drop_all, append-nil}
+use Rattle.table.proofs.Parts.{part-all, part_length, part_at, part-part, part-lent, put-lent}
 use Rattle.table.proofs.Cells.{column_in}
 use Rattle.table.proofs.Columns.{columns_ext}
 use Rattle.table.proofs.Lent.{lent_length}
 use Rattle.table.proofs.Lengths.{scale_all-length}
-use Rattle.table.proofs.Scaling.{scale_all-four}
 use Rattle.word.specs.Rows.{byte_of, words_of, bytes_of, PutBytes}
 use Rattle.word_table.specs.Table.{row_words, table_of, row_at}
 use Rattle.word_table.specs.Code.Scaling.{scale_bytes}
@@ -42,9 +41,18 @@ pub scale_bytes-length : (f n columns : ℕ) (nz ds row : List ℕ) → length r
 unfolding scale_bytes
 scale_bytes-length f n columns nz ds row l = scale_all-length (field_of f) n columns row l _ _
 
+first_cell : (n w : ℕ) → cell n w 1 1 ≡ 0
+unfolding cell
+first_cell n w = let e : 0 * w + 0 ≡ 0 = omega arith in ap (λ (x : ℕ). x * n) e ∙ zero-mul n
+
+-- a list that is replaced from end to end
+put_whole : (k : ℕ) (s t : List ℕ) → length t ≡ k → put k 0 s t ≡ s
+unfolding put
+put_whole k s t h = ap (λ (r : List ℕ). s ++ r) (drop_all k t (omega arith)) ∙ append-nil s
+
 -- what a table of this row alone becomes
 pub scaled-bytes : (f n columns : ℕ) (nz ds row : List ℕ) → length row ≡ columns * n → scale f n columns 1 1 nz ds row ≡ scale_bytes f n columns nz ds row
-unfolding scale scale_bytes
+unfolding scale scale_bytes part
 scaled-bytes f n columns nz ds row h =
     let z : cell n columns 1 1 ≡ 0 = first_cell n columns in
     let l : columns + 1 - 1 ≡ columns = omega arith in

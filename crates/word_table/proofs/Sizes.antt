@@ -1,14 +1,11 @@
 -- The sizes of a table in words are small, and its rows lie within it.
 -- Assumes nothing.
-use mathlib.Core.Path.{◌≡◌, sym, ap, ◌∙◌}
-use Prim.Native.Nat.{ℕ, suc, ◌+◌, ◌-◌, ◌*◌, ◌/◌, ◌<◌, ◌≤◌}
+use mathlib.Core.Path.{◌≡◌, ◌∙◌}
+use Prim.Native.Nat.{ℕ, ◌+◌, ◌*◌, ◌/◌, ◌<◌, ◌≤◌}
 use native.Mathlib.Omega.{arith}
 use native.Mathlib.Nat.{mul-le-mul, mul_assoc}
-use mathlib.Core.List.{List}
-use lib.ListN.{length, length-drop}
-use lib.Seq.{length-take-le}
 use Rattle.sharing.specs.Bounds.{most_columns}
-use Rattle.table.specs.Layout.{Bounded, table_bytes, part}
+use Rattle.table.specs.Layout.{table_bytes}
 use Rattle.table.proofs.Cells.{column_in}
 use Rattle.word.specs.Rows.{words_of}
 use Rattle.word_table.specs.Table.{row_words}

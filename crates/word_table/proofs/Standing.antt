@@ -1,22 +1,22 @@
 -- Where the rows of a table in words stand, as words and as bytes: a row that is put as words is put as bytes.
 -- Assumes nothing.
-use mathlib.Core.Path.{◌≡◌, refl, sym, ap, ap₂, ◌∙◌, subst⁻¹}
-use Prim.Native.Nat.{ℕ, zero, suc, ◌+◌, ◌-◌, ◌*◌, ◌/◌, ◌%◌, ◌<◌, ◌≤◌}
-use mathlib.Core.List.{List, [], ◌∷◌, ◌++◌}
+use mathlib.Core.Path.{◌≡◌, refl, sym, ap, ap₂, ◌∙◌}
+use Prim.Native.Nat.{ℕ, zero, suc, ◌+◌, ◌-◌, ◌*◌, ◌<◌, ◌≤◌}
+use mathlib.Core.List.{List}
 use native.Mathlib.Omega.{arith}
 use native.Mathlib.Decide.{dec_lt}
-use native.Mathlib.Nat.{suc-mul, mul-le-mul_right, mul_assoc, mod-lt}
+use native.Mathlib.Nat.{suc-mul}
 use lib.Arith.{digits_div, digits_mod}
-use lib.ListN.{length, get_or, take, drop, length-append, length-take, length-drop}
-use lib.Seq.{length-take-le, take-take, drop-drop, take-append-le, drop-append-add, drop-append-le}
+use lib.ListN.{length, get_or, take, drop, length-append}
+use lib.Seq.{drop-drop}
 use Rattle.sharing.specs.Run.{tab}
 use Rattle.sharing.proofs.Pairs.{tab-length, tab-at, tab_ext, tab_list}
-use Rattle.table.specs.Layout.{cell, table_bytes, part, put, entry, columns_from, row_from, put_row, Inside}
-use Rattle.table.proofs.Parts.{part_length, part-all, part_at, part-part, part-first, part-second, part_same, part-before, part-behind, part_inside, put-length, put_inside, put-part}
+use Rattle.table.specs.Layout.{part, put}
+use Rattle.table.proofs.Parts.{part_length, part-all, part_at, part-part, part-first, part-second, part_same, part-before, part-behind, put-length}
 use Rattle.table.proofs.Cells.{column_in}
 use Rattle.table.proofs.Columns.{columns_ext}
-use Rattle.word.specs.Rows.{byte_of, words_of, bytes_of}
-use Rattle.word_table.specs.Table.{row_words, table_of, row_at}
+use Rattle.word.specs.Rows.{byte_of, bytes_of}
+use Rattle.word_table.specs.Table.{row_words, table_of}
 
 -- ---- the bytes of a row
 

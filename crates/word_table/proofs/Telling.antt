@@ -1,19 +1,17 @@
 -- What a join asks of its numbers: how many bits tell a factor, how many pairs there are, and the room that the columns take of a whole row's.
 -- Assumes nothing.
-use mathlib.Core.Path.{◌≡◌, refl, sym, ap, ◌∙◌}
+use mathlib.Core.Path.{◌≡◌, refl}
 use mathlib.Core.Bool.{Bool, true, false}
-use mathlib.Core.Logic.{◌⊎◌, inl, inr}
-use Prim.Native.Nat.{ℕ, zero, suc, ◌+◌, ◌-◌, ◌*◌, ◌<◌, ◌≤◌}
+use mathlib.Core.Logic.{inl, inr}
+use Prim.Native.Nat.{ℕ, zero, suc, ◌*◌, ◌≤◌}
 use mathlib.Core.List.{List}
 use native.Mathlib.Omega.{arith}
 use native.Mathlib.Nat.{mul-le-mul_right, mul-le-mul, mul_assoc}
 use lib.Dec.{eqb, lit≤}
 use lib.ListN.{length, get_or}
-use Rattle.field.specs.Field.{Binary, F16, F256, field_of, bits, pick}
+use Rattle.field.specs.Field.{F16, F256, field_of, pick}
 use Rattle.field.proofs.Fields.{binary_of}
 use Rattle.sharing.specs.Run.{pairs}
-use Rattle.sharing.specs.Bounds.{most_columns}
-use Rattle.sharing.specs.Lists.{Below}
 use Rattle.word.specs.Rows.{words_of}
 use Rattle.plane.specs.Code.Words.{Widths}
 use Rattle.plane.proofs.Choosing.{Taken}

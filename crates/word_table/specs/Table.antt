@@ -1,6 +1,6 @@
 -- A table in words: its rows one after another, each as crate word has it. What it stands for is a table of bytes as 01 lays it out.
 -- Assumes nothing.
-use Rattle.std.specs.Prelude.{ℕ, zero, suc, ◌+◌, ◌-◌, ◌*◌, ◌<◌, ◌≤◌, ◌≡◌, List, [], ◌++◌, length, take, drop}
+use Rattle.std.specs.Prelude.{ℕ, zero, suc, ◌-◌, ◌*◌, ◌<◌, ◌≤◌, ◌≡◌, List, [], ◌++◌, length, take, drop}
 use Rattle.field.specs.Field.{bits}
 use Rattle.sharing.specs.Run.{pairs}
 use Rattle.sharing.specs.Lists.{Below}

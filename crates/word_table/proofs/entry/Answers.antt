@@ -12,7 +12,6 @@ use Rattle.table.proofs.Lent.{lent_length}
 use Rattle.word_table.specs.Table.{row_at, row_words}
 use Rattle.word_table.proofs.Sizes.{row_within, entry_within}
 use Rattle.word_table.proofs.Entering.{entry_of}
-use borrow.Author.Rules.{rules}
 use Rattle.word_table.proofs.entry.Goals as goal
 
 -- the row that is lent
@@ -24,31 +23,31 @@ left n w r words size e h = ap (λ (row : List ℕ). tab n (byte_of n row e)) (p
 pub overflow_mul-a : goal.overflow_mul-a
 overflow_mul-a c =
     let within : ((c.args.r - 1) * c.row_words-size.result + c.row_words-size.result ≤ length c.args.words.now) × ((c.args.r - 1) * c.row_words-size.result + c.row_words-size.result ≤ 7296) =
-        row_within c.args.n c.args.w c.args.rows c.requires.bounded.fits.shares_high c.requires.bounded.fits.width_high c.requires.bounded.fits.rows_high c.row_words-size.ensures.0 c.requires.w_in_bounds.0 (omega (arith, c.requires.inside.row_low, c.requires.inside.row_high)) in
+    row_within c.args.n c.args.w c.args.rows c.requires.bounded.fits.shares_high c.requires.bounded.fits.width_high c.requires.bounded.fits.rows_high c.row_words-size.ensures.0 c.requires.w_in_bounds.0 (omega (arith, c.requires.inside.row_low, c.requires.inside.row_high)) in
     omega (arith, within)
 
 pub overflow_add-a : goal.overflow_add-a
 overflow_add-a c =
     let within : ((c.args.r - 1) * c.row_words-size.result + c.row_words-size.result ≤ length c.args.words.now) × ((c.args.r - 1) * c.row_words-size.result + c.row_words-size.result ≤ 7296) =
-        row_within c.args.n c.args.w c.args.rows c.requires.bounded.fits.shares_high c.requires.bounded.fits.width_high c.requires.bounded.fits.rows_high c.row_words-size.ensures.0 c.requires.w_in_bounds.0 (omega (arith, c.requires.inside.row_low, c.requires.inside.row_high)) in
+    row_within c.args.n c.args.w c.args.rows c.requires.bounded.fits.shares_high c.requires.bounded.fits.width_high c.requires.bounded.fits.rows_high c.row_words-size.ensures.0 c.requires.w_in_bounds.0 (omega (arith, c.requires.inside.row_low, c.requires.inside.row_high)) in
     omega (arith, within)
 
 pub offset_bounds-words-a : goal.offset_bounds-words-a
 offset_bounds-words-a c =
     let within : ((c.args.r - 1) * c.row_words-size.result + c.row_words-size.result ≤ length c.args.words.now) × ((c.args.r - 1) * c.row_words-size.result + c.row_words-size.result ≤ 7296) =
-        row_within c.args.n c.args.w c.args.rows c.requires.bounded.fits.shares_high c.requires.bounded.fits.width_high c.requires.bounded.fits.rows_high c.row_words-size.ensures.0 c.requires.w_in_bounds.0 (omega (arith, c.requires.inside.row_low, c.requires.inside.row_high)) in
+    row_within c.args.n c.args.w c.args.rows c.requires.bounded.fits.shares_high c.requires.bounded.fits.width_high c.requires.bounded.fits.rows_high c.row_words-size.ensures.0 c.requires.w_in_bounds.0 (omega (arith, c.requires.inside.row_low, c.requires.inside.row_high)) in
     omega (arith, within)
 
 pub slice_bounds-entry-end : goal.slice_bounds-entry-end
 slice_bounds-entry-end c =
     let within : ((c.args.r - 1) * c.row_words-size.result + c.row_words-size.result ≤ length c.args.words.now) × ((c.args.r - 1) * c.row_words-size.result + c.row_words-size.result ≤ 7296) =
-        row_within c.args.n c.args.w c.args.rows c.requires.bounded.fits.shares_high c.requires.bounded.fits.width_high c.requires.bounded.fits.rows_high c.row_words-size.ensures.0 c.requires.w_in_bounds.0 (omega (arith, c.requires.inside.row_low, c.requires.inside.row_high)) in
+    row_within c.args.n c.args.w c.args.rows c.requires.bounded.fits.shares_high c.requires.bounded.fits.width_high c.requires.bounded.fits.rows_high c.row_words-size.ensures.0 c.requires.w_in_bounds.0 (omega (arith, c.requires.inside.row_low, c.requires.inside.row_high)) in
     omega (arith, within)
 
 pub entry-requires : goal.entry-requires
 entry-requires c =
     let within : ((c.args.r - 1) * c.row_words-size.result + c.row_words-size.result ≤ length c.args.words.now) × ((c.args.r - 1) * c.row_words-size.result + c.row_words-size.result ≤ 7296) =
-        row_within c.args.n c.args.w c.args.rows c.requires.bounded.fits.shares_high c.requires.bounded.fits.width_high c.requires.bounded.fits.rows_high c.row_words-size.ensures.0 c.requires.w_in_bounds.0 (omega (arith, c.requires.inside.row_low, c.requires.inside.row_high)) in
+    row_within c.args.n c.args.w c.args.rows c.requires.bounded.fits.shares_high c.requires.bounded.fits.width_high c.requires.bounded.fits.rows_high c.row_words-size.ensures.0 c.requires.w_in_bounds.0 (omega (arith, c.requires.inside.row_low, c.requires.inside.row_high)) in
     let l = lent_length c.row_words-size.result ((c.args.r - 1) * c.row_words-size.result) c.args.words.now within.0 in
     (c.requires.bounded.fits.shares_high, c.requires.w_in_bounds.1, omega (arith, c.requires.inside.column_low, c.requires.inside.column_high, c.requires.bounded.fits.width_high), rw l (omega (arith, c.row_words-size.ensures.0, entry_within c.args.n c.args.w (c.args.w - c.args.j) (omega (arith, c.requires.inside.column_low, c.requires.inside.column_high)))))
 

@@ -1,11 +1,9 @@
 -- `word_table::load` meets its contract.
 -- Assumes nothing.
-use mathlib.Core.Path.{◌≡◌, sym, ◌∙◌}
-use Prim.Native.Nat.{ℕ, ◌-◌, ◌*◌, ◌≤◌}
+use mathlib.Core.Path.{◌≡◌, ◌∙◌}
 use native.Mathlib.Omega.{arith}
-use lib.ListN.{length}
 use Rattle.word_table.proofs.Sizes.{table-rows}
-use Rattle.word_table.proofs.Loading.{Loaded, loaded_none, loaded_next, loaded_all}
+use Rattle.word_table.proofs.Loading.{loaded_none, loaded_next, loaded_all}
 use borrow.Author.Rules.{rules}
 use Rattle.word_table.proofs.load.Goals as goal
 
@@ -14,9 +12,9 @@ loop-r-init c = (search rules, search rules, loaded_none _ _ _ _ _)
 
 pub load_row-requires : goal.load_row-requires
 load_row-requires c = record {
-    bounded = c.requires.bounded;
-    le_w = (c.requires.le_w.0, omega arith, c.requires.le_w.1, omega (arith, c.loop-r.invariant.1, c.requires.le_w.2));
-  }
+  bounded = c.requires.bounded;
+  le_w = (c.requires.le_w.0, omega arith, c.requires.le_w.1, omega (arith, c.loop-r.invariant.1, c.requires.le_w.2));
+}
 
 pub loop-r-preserved : goal.loop-r-preserved
 loop-r-preserved c =

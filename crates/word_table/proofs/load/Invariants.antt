@@ -1,12 +1,9 @@
 -- `word_table::load` meets its contract.
 -- Assumes nothing.
-use mathlib.Core.Path.{◌≡◌, sym, ◌∙◌}
-use Prim.Native.Nat.{ℕ, ◌-◌, ◌*◌, ◌≤◌}
-use native.Mathlib.Omega.{arith}
+use mathlib.Core.Path.{◌≡◌}
+use Prim.Native.Nat.{◌-◌, ◌≤◌}
 use lib.ListN.{length}
-use Rattle.word_table.proofs.Sizes.{table-rows}
-use Rattle.word_table.proofs.Loading.{Loaded, loaded_none, loaded_next, loaded_all}
-use borrow.Author.Rules.{rules}
+use Rattle.word_table.proofs.Loading.{Loaded}
 use Rattle.word_table.proofs.load.Given as goal
 
 abbrev pub invariant-loop-r : goal.invariant-loop-r

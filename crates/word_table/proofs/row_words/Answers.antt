@@ -6,7 +6,7 @@ use borrow.Author.Rules.{rules}
 use Rattle.word_table.proofs.row_words.Goals as goal
 
 pub overflow_mul-result : goal.overflow_mul-result
-overflow_mul-result c = omega (arith, row_small c.requires.bounded c.requires.1)
+overflow_mul-result c = omega (arith, row_small c.requires.0 c.requires.1)
 
 pub returns : goal.returns
-returns c = (search rules, row_small c.requires.bounded c.requires.1)
+returns c = (search rules, row_small c.requires.0 c.requires.1)

@@ -1,10 +1,8 @@
 -- `word_table::scale_bytes` meets its contract: it is `table::scale` on a table of one row, from column 1 on.
 -- Assumes nothing.
-use mathlib.Core.Path.{◌≡◌, sym, ◌∙◌}
-use Prim.Native.Nat.{ℕ, ◌+◌, ◌-◌, ◌*◌, ◌≤◌}
+use mathlib.Core.Path.{◌≡◌, ◌∙◌}
+use Prim.Native.Nat.{◌+◌, ◌-◌}
 use native.Mathlib.Omega.{arith}
-use lib.ListN.{length}
-use Rattle.sharing.specs.Bounds.{most_rows}
 use Rattle.table.specs.Layout.{table_bytes}
 use Rattle.word_table.proofs.Scaling.{scaled-bytes}
 use Rattle.word_table.proofs.scale_bytes.Goals as goal

@@ -1,6 +1,5 @@
 -- `word_table::scale_words` meets its contract: each call's promise is about the bytes that the one before left.
 -- Assumes nothing.
-use borrow.Author.Rules.{rules}
 use Rattle.word_table.proofs.scale_words.Goals as goal
 
 pub returns : goal.returns

@@ -1,15 +1,11 @@
 -- `word_table::store` meets its contract.
 -- Assumes nothing.
-use mathlib.Core.Path.{◌≡◌, sym, ◌∙◌}
-use Prim.Native.Nat.{ℕ, ◌-◌, ◌*◌, ◌≤◌}
-use native.Mathlib.Omega.{arith}
+use mathlib.Core.Path.{◌≡◌}
+use Prim.Native.Nat.{◌-◌, ◌≤◌}
 use lib.ListN.{length}
 use Rattle.sharing.specs.Run.{run}
-use Rattle.sharing.proofs.Loops.{run_none, run-next, run_done}
 use Rattle.table.specs.Layout.{table_bytes}
 use Rattle.word_table.specs.Table.{store_turn}
-use Rattle.word_table.proofs.Storing.{stored, turn_length}
-use borrow.Author.Rules.{rules}
 use Rattle.word_table.proofs.store.Given as goal
 
 abbrev pub invariant-loop-r : goal.invariant-loop-r
