@@ -4,7 +4,7 @@ use Rattle.std.specs.Prelude.{List, ℕ, length, replicate}
 use Rattle.sharing.specs.Bounds.{most_rows}
 use Rattle.course.specs.declared.Draws.{Draws}
 use Rattle.course.specs.StepList.{draws, Revealed, None, Flag, Pivot, Unknown, revealed_by}
-use Rattle.walk.specs.Act.{Held, held}
+use Rattle.walk.specs.Act.{Held}
 use Rattle.pattern.specs.declared.WideOrder.{WideOrder}
 use Rattle.pattern.specs.declared.WidePlace.{WidePlace}
 use Rattle.pattern.specs.declared.WidePlace.TheVariants as P

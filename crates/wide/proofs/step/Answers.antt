@@ -1,0 +1,59 @@
+-- `wide::step` meets its contract: a pass gives the work of the place's step what it asks for, and a place that is no step is left as it is.
+-- Assumes nothing.
+use mathlib.Core.Path.{◌≡◌, ap, ◌∙◌}
+use native.Mathlib.Omega.{arith}
+use Rattle.sharing.specs.Bounds.{most_rows}
+use lib.ListN.{length}
+use Rattle.pattern.proofs.Counting.{wanted_few}
+use Rattle.pattern.proofs.Moving.{standing-says, room_at}
+use Rattle.verdict.proofs.Verdicts.{passes}
+use Rattle.verdict.proofs.Calls.{refuses_call, passes_call}
+use Rattle.wide.specs.WideRefusals.{cost_at}
+use Rattle.wide.specs.WideCalls.{step_call}
+use Rattle.wide.proofs.Ready.{going, tests}
+use Rattle.wide.proofs.Calls.{step_done_lem, step_stays}
+use borrow.Author.Rules.{rules}
+use Rattle.wide.proofs.step.Goals as goal
+
+pub returns-in_default : goal.returns-in_default
+unfolding step_call
+returns-in_default c =
+    step_stays _ _ _ _ _ c.in_default.not-At
+    ∙ passes_call _ _ _ _ c.step.ensures c.in-Pass.is
+
+pub act-x-requires : goal.act-x-requires
+unfolding cost_at
+act-x-requires c =
+    let g = going _ _ _ _ _ (passes _ _ c.step.ensures c.in-Pass.is) in
+    let t = tests _ g.at.stood.listed in
+    let m = ap (λ p. (cost_at c.args.p.order p).mask) c.in-At.is in
+    let k = ap (λ p. (cost_at c.args.p.order p).nonzero) c.in-At.is in
+    record {
+      sizes = g.sizes;
+      v_value = (t.0, rw c.in-At.is at t.1);
+      table_len = (g.at.whole, g.at.room);
+      s_in_bounds = (omega (arith, g.lent.masks, m), omega (arith, g.lent.others, k));
+    }
+
+pub next-next-requires : goal.next-next-requires
+next-next-requires c =
+    let g = going _ _ _ _ _ (passes _ _ c.step.ensures c.in-Pass.is) in
+    let p = c.args.p in
+    let slots : length p.pivots.columns ≡ most_rows = search rules in
+    let r = room_at p.order g.sizes c.in-At.s c.in-At.is (standing-says p slots g.at.stood.listed g.at.stood.matched) in
+    let few = wanted_few p.order g.sizes in
+    record {
+      sizes = g.sizes;
+      self_value = (g.at.stood.listed, c.in-At.is);
+      s_bound = (omega (arith, r.1, few.0), omega (arith, r.2, few.1));
+    }
+
+pub returns-in-Refuse : goal.returns-in-Refuse
+unfolding step_call
+returns-in-Refuse c = refuses_call _ _ _ _ _ c.step.ensures c.in-Refuse.is
+
+pub returns-in-At : goal.returns-in-At
+unfolding step_call
+returns-in-At c =
+    step_done_lem _ _ _ _ _ _ _ _ _ _ c.in-At.is c.act-x.ensures.value c.act-x.ensures.solution_after c.next-next.ensures c.answer.ensures
+    ∙ passes_call _ _ _ _ c.step.ensures c.in-Pass.is
