@@ -24,7 +24,7 @@ use Rattle.course.proofs.Along.{Calm}
 use Rattle.walk.specs.Act as A
 use Rattle.walk.specs.declared.Ending.TheVariants as Ended
 use Rattle.pattern.specs.declared.WideOrder.{WideOrder}
-use Rattle.pattern.specs.declared.WidePlace.TheVariants.{At, Done}
+use Rattle.pattern.specs.declared.WidePlace.TheVariants.{At}
 use Rattle.pattern.specs.Pivots.{row_of}
 use Rattle.pattern.specs.PatternList.{Sizes, cost_of}
 use Rattle.pattern.specs.Next.{start_of, following}
@@ -50,7 +50,7 @@ use Rattle.trace.proofs.Call as C
 use Rattle.trace.proofs.Reached as R
 use Rattle.trace.proofs.Trace as T
 use Rattle.trace.proofs.Progress as P
-use Rattle.wide_trace.specs.WideTrace.{Host, begin, lends, host_after, drive, order_in, pivots_in, opened_in, stepped, Refused, Accepted, counts_in, Agrees, Admitted}
+use Rattle.wide_trace.specs.WideTrace.{Host, begin, lends, host_after, drive, order_in, pivots_in, opened_in, stepped, Refused, Accepted, Agrees, Admitted}
 use Rattle.wide_trace.specs.WideSquare.{first_columns, wide_at, found_before, found_at, Alike}
 use Rattle.wide_trace.proofs.Call.{each-call}
 use Rattle.wide_trace.proofs.Reached.{order-kept, reached_own, sized_own, found, next}
