@@ -19,7 +19,6 @@ solve-requires-in-Pass c =
 pub returns-in-Refuse : goal.returns-in-Refuse
 unfolding solve_call
 returns-in-Refuse c =
-    let a = c.args in
     let e = refuses_call _ _ _ _ _ c.solve.ensures c.in-Refuse.is in
     record {
       outcome = e;
