@@ -1,4 +1,4 @@
--- What the closed test `in_list_lem` says of a step's numbers: 1 ≤ j ≤ m, j < k ≤ m where there is a k, and 2 ≤ j for Lift.
+-- What the closed test `in_list` says of a step's numbers: 1 ≤ j ≤ m, j < k ≤ m where there is a k, and 2 ≤ j for Lift.
 -- Assumes nothing.
 use mathlib.Core.Bool.{Bool, true, false, ◌&&◌, false≢true}
 use mathlib.Core.Logic.{◌⊎◌, ⊎_elim}
