@@ -36,6 +36,7 @@ returns-in_default c =
     used c.args.v small slots in
     (sym count ∙ others c.args.s (listed c.args.v) c.in_default.not-Scale, small)
 
+-- a Scale has its pivot
 pub overflow_sub-result : goal.overflow_sub-result
 overflow_sub-result c =
     let slots : length c.args.v.columns ≡ most_rows =

@@ -20,6 +20,7 @@ pub returns-in-Refuse : goal.returns-in-Refuse
 unfolding solve_call
 returns-in-Refuse c = record { outcome = refuses_call _ _ _ _ _ c.solve.ensures c.in-Refuse.is; meaning = tt }
 
+-- the equation and its meaning
 pub returns-in-Pass : goal.returns-in-Pass
 unfolding solve_call
 returns-in-Pass c =

@@ -25,6 +25,7 @@ returns-in_default-s c =
     let same : c.in-At.s ≡ Lift j = cc in
     c.in_default-s.not-Lift j same)
 
+-- the column of the Lift
 pub overflow_sub-x : goal.overflow_sub-x
 overflow_sub-x c =
     let slots : length c.args.v.columns ≡ most_rows = search rules in

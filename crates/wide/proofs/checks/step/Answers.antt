@@ -29,6 +29,7 @@ pub table_rows-requires : goal.table_rows-requires
 table_rows-requires c =
     sized _ (passes _ _ c.sizes-v.ensures c.in-Pass.is)
 
+-- what 6 tells
 pub returns-in_default-x : goal.returns-in_default-x
 unfolding step_order
 returns-in_default-x c =
@@ -45,6 +46,7 @@ cost_at-d-requires c =
       v_value = tests _ (placing-says _ _ _ (passes _ _ c.placing-w.ensures c.in-Pass-w.is)).stood.listed;
     }
 
+-- and the tapes
 pub returns-in_default-y : goal.returns-in_default-y
 unfolding step_order
 returns-in_default-y c =
