@@ -5,6 +5,7 @@
 #![tactic(auto)]
 
 use course::Order;
+use show::REFUSED;
 use show::call::{BLANK, LARGEST, MASK, TABLE, ZERO_PIVOT, order};
 use solver::Solving;
 use std::io;
@@ -12,18 +13,14 @@ use std::io;
 // Rows (0,1),(0,3), b = (1,2), in two shares.
 const TWO_STOPS: [u8; 12] = [7, 7, 11, 10, 1, 0, 12, 12, 6, 5, 8, 10];
 
-fn say_counts(out: &impl Print, a: Solving) -> io::Result<()> {
-    show::text(out, ", counts ")?;
-    show::say(out, show::taken(a))
-}
-
 fn say_solving(out: &impl Print, a: Solving) -> io::Result<()> {
-    show::say(out, show::verdict(a))?;
-    match a {
-        Solving::Solved(_) => say_counts(out, a),
-        Solving::Stopped(_, _) => say_counts(out, a),
-        Solving::Refused(_) => Ok(()),
+    let ended = show::of_solving(a);
+    show::say(out, ended.verdict)?;
+    if ended.verdict.word == REFUSED {
+        return Ok(());
     }
+    show::text(out, ", counts ")?;
+    show::say(out, ended.taken)
 }
 
 fn begin_solve(
