@@ -1,10 +1,11 @@
 -- A call for C at work: code 99 where the words are too many or too few, else the call's outcome in words.
 -- Assumes nothing.
-use mathlib.Core.Bool.{Bool, true, false, not}
+use mathlib.Core.Bool.{Bool, true, false}
+use mathlib.Core.Logic.{◌⊎◌, ⊎_elim}
 use mathlib.Core.List.{List}
 use mathlib.Core.Path.{◌≡◌}
 use Prim.Native.Nat.{ℕ}
-use borrow.Author.Tests.{eq-eqb, ne_eqb, not-true, not-false}
+use borrow.Author.Tests.{eq-eqb, ne_eqb}
 use Rattle.course.specs.declared.Progress.{Progress}
 use Rattle.walk.specs.Act.{Held}
 use Rattle.verdict.specs.Told.{Line}
@@ -16,7 +17,7 @@ use Rattle.host.specs.declared.replies.Reply.{Reply}
 use Rattle.host.specs.Words.{words_of, kept}
 use Rattle.host.specs.WideWords.{wide_kept}
 use Rattle.host.specs.Replies.{refusal_reply, reply, four_of, said, fresh_reply, stride_reply, begun_reply, wide_stride_reply}
-use Rattle.host.specs.Faces.{Back, back, handed, worded, four, words_right, start_handed, recorded, step_handed, begin_handed, wide_step_handed}
+use Rattle.host.specs.Faces.{Back, back, handed, worded, words_right, start_handed, recorded, step_handed, begin_handed, wide_step_handed}
 
 module _ {L : Type 0} where
   pub words_wrong : (right : Bool) (found : L) (answer : List ℕ) (does : Back L) → right ≡ false → back 99 found answer ≡ worded right found answer does
@@ -27,19 +28,15 @@ module _ {L : Type 0} where
   unfolding worded
   words_right_lem right found answer does b e g = rw e g
 
--- the words of a record and of an answer, counted; the code has a truth value for whether the second is wrong
+-- the words of a record and of an answer, counted
 module _ (right words answer : ℕ) where
-  pub not_words : (words ≡ right → ⊥) → words_right right words answer ≡ false
+  pub not_words-or-four : (words ≡ right → ⊥) ⊎ ((words ≡ right) × (answer ≡ 4 → ⊥)) → words_right right words answer ≡ false
   unfolding words_right
-  not_words h = rw (ne_eqb _ _ h)
+  not_words-or-four = ⊎_elim (λ h. rw (ne_eqb _ _ h)) (λ h. rw (eq-eqb _ _ h.0, ne_eqb _ _ h.1))
 
-  pub not_four : words ≡ right → not (four answer) ≡ true → words_right right words answer ≡ false
+  pub words-and-four : words ≡ right → answer ≡ 4 → words_right right words answer ≡ true
   unfolding words_right
-  not_four e h = rw (eq-eqb _ _ e, not-true (four answer) h)
-
-  pub words-and-four : words ≡ right → not (four answer) ≡ false → words_right right words answer ≡ true
-  unfolding words_right
-  words-and-four e h = rw (eq-eqb _ _ e, not-false (four answer) h)
+  words-and-four e h = rw (eq-eqb _ _ e, eq-eqb _ _ h)
 
 -- what `say` ensures: the code, and the answer's words
 abbrev pub Said : ℕ → List ℕ → Reply → Type 0

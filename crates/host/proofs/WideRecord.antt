@@ -62,21 +62,21 @@ tab-own (x ∷ s) = ap {B = List ℕ} (λ t. x ∷ t) (tab-own s)
 
 -- the place of three words: 8 alone is short, and carries no j and no k
 module _ (step j k : ℕ) where
-  pub is_short : step ≡ 8 → eqb j 0 ≡ true → eqb k 0 ≡ true → Short ≡ wide_place_of step j k
+  pub is_short : step ≡ 8 → j ≡ 0 → k ≡ 0 → Short ≡ wide_place_of step j k
   unfolding wide_place_of
-  is_short a b c = rw (eq-eqb _ _ a, b, c)
+  is_short a b c = rw (eq-eqb _ _ a, eq-eqb _ _ b, eq-eqb _ _ c)
 
   pub not_8 : (step ≡ 8 → ⊥) → widened (place_of step j k) ≡ wide_place_of step j k
   unfolding wide_place_of
   not_8 h = rw (ne_eqb _ _ h)
 
-  pub not_short_j : step ≡ 8 → eqb j 0 ≡ false → widened (place_of step j k) ≡ wide_place_of step j k
+  pub not_short_j : step ≡ 8 → (j ≡ 0 → ⊥) → widened (place_of step j k) ≡ wide_place_of step j k
   unfolding wide_place_of
-  not_short_j a h = rw (eq-eqb _ _ a, h)
+  not_short_j a h = rw (eq-eqb _ _ a, ne_eqb _ _ h)
 
-  pub not_short_k : step ≡ 8 → eqb j 0 ≡ true → eqb k 0 ≡ false → widened (place_of step j k) ≡ wide_place_of step j k
+  pub not_short_k : step ≡ 8 → j ≡ 0 → (k ≡ 0 → ⊥) → widened (place_of step j k) ≡ wide_place_of step j k
   unfolding wide_place_of
-  not_short_k a b h = rw (eq-eqb _ _ a, b, h)
+  not_short_k a b h = rw (eq-eqb _ _ a, eq-eqb _ _ b, ne_eqb _ _ h)
 
 -- a place written and read again is the same
 wide_place_again : (p : WidePlace) → wide_place_of (wide_spot_of p).step (wide_spot_of p).j (wide_spot_of p).k ≡ p

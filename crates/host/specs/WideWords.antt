@@ -2,7 +2,7 @@
 -- taken, how many pivots are found, and 96 slots for these. Any 106 words are read; those that name no place are read as a place outside every list,
 -- and a slot that is no byte as 255, which is no column.
 -- Assumes nothing.
-use Rattle.std.specs.Prelude.{Bool, ◌&&◌, List, [], ◌∷◌, ◌++◌, map, ℕ, eqb, leb, get_or, drop}
+use Rattle.std.specs.Prelude.{◌&&◌, List, [], ◌∷◌, ◌++◌, map, ℕ, eqb, leb, get_or, drop}
 use Rattle.field.specs.Field.{pick}
 use Rattle.course.specs.declared.Step.TheVariants.{Mix}
 use Rattle.course.specs.declared.Place.{Place}

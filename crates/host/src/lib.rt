@@ -2,6 +2,8 @@
 // Each exported function takes any numbers and any buffers, and promises by one equation the code that it returns and every lent byte and
 // word, for every input. A record or an answer that has not its number of words is code 99, before anything else, and nothing is written.
 // The record is `record_words` here: antt reserves `record`.
+#![tactic(auto)]
+
 mod replies;
 mod words;
 

@@ -1,0 +1,16 @@
+-- `hz_read` meets its contract: the outcome of `read` in words, or code 99.
+-- Assumes nothing.
+use borrow.Author.Tests.{eq-eqb, ne_eqb}
+use Rattle.host.specs.Faces.{hz_read}
+use Rattle.host.proofs.Faces.{words_wrong, words_right_lem, hands}
+use Rattle.host.proofs.hz_read.Goals as goal
+
+pub returns-then-answer-ne4 : goal.returns-then-answer-ne4
+unfolding hz_read
+returns-then-answer-ne4 c = words_wrong _ _ _ _ (ne_eqb _ _ c.if-answer-ne4.true)
+
+pub returns : goal.returns
+unfolding hz_read
+returns c =
+    words_right_lem _ _ _ _ _ (eq-eqb _ _ c.if-answer-ne4.false)
+    (hands _ _ _ c.say.ensures _ _ _ _ c.read-r.ensures c.of_read.ensures)

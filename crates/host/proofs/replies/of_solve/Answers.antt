@@ -1,0 +1,16 @@
+-- `replies::of_solve` meets its contract, case by case.
+-- Assumes nothing.
+use Rattle.host.specs.Replies.{said, ending_reply}
+use Rattle.host.proofs.replies.of_solve.Goals as goal
+
+pub returns-in-Refused : goal.returns-in-Refused
+unfolding said
+returns-in-Refused c = rw (c.in-Refused.is, c.refusal.ensures)
+
+pub returns-in-Solved : goal.returns-in-Solved
+unfolding said ending_reply
+returns-in-Solved c = rw c.in-Solved.is
+
+pub returns-in-Stopped : goal.returns-in-Stopped
+unfolding said ending_reply
+returns-in-Stopped c = rw c.in-Stopped.is
