@@ -1,11 +1,11 @@
 -- What is read of an input's front, and the line of it: the line of the front is that of the whole input.
 -- Assumes nothing.
-use Rattle.std.proofs.Common.{◌≡◌, ℕ, ◌+◌, ◌-◌, ◌≤◌, ◌<◌, List, [], ◌++◌, arith, length, take, drop, slice_range, sym, ap, ◌∙◌, subst, drop_at, length-take-le, append-nil, refl, IfSome, OnOk, Ok, Err, Some, None, Result, Option}
+use Rattle.std.proofs.Common.{◌≡◌, ℕ, ◌+◌, ◌-◌, ◌≤◌, ◌<◌, List, ◌++◌, arith, length, take, slice_range, sym, ap, ◌∙◌, subst, drop_at, length-take-le, append-nil, refl, IfSome, OnOk, Ok, Err, Some, None, Result, Option}
 use borrow.Rule.Slice.PartMut.{put_mid, post_of}
 use lib.Seq.{take-add, take-append-le}
 use lib.ListN.{length-append}
 use Rattle.std.proofs.Math.Seq.{take-append_seam}
-use Rattle.std.specs.Io.KnownBytes.{Consumes, Appends}
+use Rattle.std.specs.Io.KnownBytes.{Appends}
 use borrow.Author.Tests.{ltb-true, ltb-false}
 use lib.Dec.{ltb}
 use mathlib.Core.Bool.{Bool, true, false}

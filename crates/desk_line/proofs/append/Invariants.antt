@@ -1,13 +1,10 @@
--- `desk_line::append` meets its contract. The loop's invariant: i is at most the text's length, and the first i bytes of the text stand in the
+-- `desk_line::append`'s loop keeps: i is at most the text's length, and the first i bytes of the text stand in the
 -- buffer from `at` on, and the buffer is as long as it was. The measure is what is left of the text.
 -- Assumes nothing.
 use Prim.Native.Nat.{◌≤◌, ◌-◌}
-use mathlib.Core.Path.{◌≡◌, refl, ◌∙◌}
-use native.Mathlib.Numerals.{add-one}
-use native.Mathlib.Omega.{arith}
-use lib.ListN.{length, length-set}
-use lib.Seq.{paste, paste-zero, paste-suc}
-use Rattle.desk_line.proofs.Written.{pasted_all}
+use mathlib.Core.Path.{◌≡◌}
+use lib.ListN.{length}
+use lib.Seq.{paste}
 use Rattle.desk_line.proofs.append.Given as goal
 
 abbrev pub invariant-loop-i : goal.invariant-loop-i
