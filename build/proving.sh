@@ -15,7 +15,7 @@ crates_under() { # NAME
             print n
         }
         { sub(/#.*/, "") }
-        /:/ { n = $0; sub(/[ \t]*:.*/, "", n); sub(/[^:]*:/, ""); deps[n] = $0 }
+        /:/ { n = $0; sub(/([ \t]+staticlib)?[ \t]*:.*/, "", n); sub(/[^:]*:/, ""); deps[n] = $0 }
         END { visit(name) }' crates.txt
 }
 
