@@ -130,7 +130,7 @@ static void flag_row(uint64_t seed, uint64_t field, uint64_t n, const char *what
     task t = made_up(seed, field, n, 1);
     set_value(&t, 0, value);
     sharing out = zero_flag(&t, a(&t));
-    rule_row(&t, what, "zeroFlag ", 1, out.share, n);
+    rule_row(&t, what, "zero_flag ", 1, out.share, n);
 }
 
 static void small_rules(uint64_t seed, uint64_t flag_seed, uint64_t field, uint64_t n)
@@ -141,7 +141,7 @@ static void small_rules(uint64_t seed, uint64_t flag_seed, uint64_t field, uint6
 
     t = made_up(seed, field, n, 1);
     out = pair_refresh(&t, a(&t));
-    rule_row(&t, "Opening, before the shares are summed", "pairRefresh F", 1, out.share, n);
+    rule_row(&t, "Opening, before the shares are summed", "pair_refresh F", 1, out.share, n);
 
     t = made_up(seed, field, n, 1);
     out = product(&t, a(&t), b(&t));
@@ -149,7 +149,7 @@ static void small_rules(uint64_t seed, uint64_t flag_seed, uint64_t field, uint6
 
     t = made_up(seed, field, n, 1);
     out = bit_and(&t, a(&t), b(&t));
-    rule_row(&t, "And", "andOf F", 2, out.share, n);
+    rule_row(&t, "And", "and_of F", 2, out.share, n);
 
     flag_row(flag_seed, field, n, "Zero flag of 0", 0);
     flag_row(flag_seed, field, n, "Zero flag of 8", 8);
