@@ -1,4 +1,6 @@
 // The step call on a progress record lent by `&mut`, moved on where it stands. Stands on solver; a host that keeps one record calls `step`.
+#![tactic(auto)]
+
 ghost use Rattle.std.specs.Prelude.{◌≡◌};
 ghost use Rattle.walk.specs.Act.{held};
 ghost use Rattle.verdict.specs.Calls.{after};
