@@ -387,16 +387,15 @@ static void print_plain(char **sizes, int count)
 /* ---- The board ---- */
 
 typedef struct {
-    uint64_t library, straight, best, ordered;
+    uint64_t library, straight, ordered;
 } board_counts;
 
 static board_counts print_board_row(void)
 {
-    board_counts of = {with_lengths("hz_solve"), with_lengths("model_solve"), without_lengths("best_solve"),
-                       without_lengths("ordered_solve")};
-    printf("| F%" PRIu64 " | %" PRIu64 " | %" PRIu64 " | %.3f | %.3f | %.3f | %.3f | %.2f | %.2f | %.2f |\n", field, n, rows,
-           millions(of.library), millions(of.straight), millions(of.best), millions(of.ordered),
-           over(of.library, of.straight), over(of.library, of.best), over(of.library, of.ordered));
+    board_counts of = {with_lengths("hz_solve"), with_lengths("model_solve"), without_lengths("ordered_solve")};
+    printf("| F%" PRIu64 " | %" PRIu64 " | %" PRIu64 " | %.3f | %.3f | %.3f | %.2f | %.2f |\n", field, n, rows,
+           millions(of.library), millions(of.straight), millions(of.ordered), over(of.library, of.straight),
+           over(of.library, of.ordered));
     fflush(stdout);
     return of;
 }
@@ -415,8 +414,8 @@ static void print_board_counts(void)
         const char *masked, *unmasked; /* thousands of cycles of document 001, F256 and n = 2 */
     } paper[3] = {{44, "6,670", "1,034"}, {72, "24,399", "4,117"}, {96, "53,461", "9,336"}};
     board_counts beside[3];
-    printf("| field | n | m | library | straightforward C | best C | ordered C | library / straightforward "
-           "| library / best | library / ordered |\n|---|---|---|---|---|---|---|---|---|---|\n");
+    printf("| field | n | m | library | straightforward C | ordered C | library / straightforward "
+           "| library / ordered |\n|---|---|---|---|---|---|---|---|\n");
     for (uint64_t f = 16; f <= 256; f += 240)
         for (uint64_t shares = 2; shares <= 4; shares++)
             for (int i = 0; i < 3; i++) {

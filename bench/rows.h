@@ -178,32 +178,31 @@ INLINE void zero_flag(work *t, unsigned w, unsigned n, uint8_t a[4])
 
 /* ---- Rows ---- */
 
-/* Row `to` += Product(a, b), from column `first` on. b is a row, of_b[t] is x^t times it, and
- * a_i·b_j is the sum of those multiples of b_j that the bits of a_i choose; a_i has so many
- * bits. The shares of b are taken from the last: then a_i·b_j with i < j is there before
- * a_j·b_i. */
-INLINE void add_product(work *t, unsigned w, unsigned n, size_t to, unsigned bits, const uint8_t a[4], planes *of_b,
-                        size_t first)
+/* Row `to` += Product(a, row `from`), from column `first` on. A product is made of the
+ * bits of row `from`, so each bit is looked at once for all shares of a. The
+ * shares of the row are taken from the last: then a_i·b_j with i < j is there
+ * before a_j·b_i. */
+INLINE void add_product(work *t, unsigned w, unsigned n, size_t to, const uint8_t a[4], size_t from, size_t first)
 {
     unsigned pairs = n * (n - 1) / 2;
     const size_t end = t->columns + 1; /* copies: a store of bytes could change *t, for all that gcc knows */
     const uint8_t *mask = t->mask;
     uint8_t(*const target)[STRIDE] = t->row[to];
-    vec choice[4][8];
+    uint8_t(*const source)[STRIDE] = t->row[from];
+    vec of_a[4][8];
     for (unsigned i = 0; i < n; i++)
-        for (unsigned bit = 0; bit < bits; bit++)
-            choice[i][bit] = if_bit(a[i], bit);
+        multiples(w, a[i], of_a[i]);
     for (size_t c = first; c < end; c += LANES) {
         size_t left = end - c < LANES ? end - c : LANES;
         vec z[6], cross[4][4], out[4];
         draw_columns(w, pairs, mask, left, z);
         mask += pairs * left;
         for (unsigned s = n; s-- > 0;) {
-            vec by[4] = {0};
-            for (unsigned bit = 0; bit < bits; bit++) {
-                vec multiple = load(of_b[bit][s] + c);
+            vec b = load(source[s] + c), by[4] = {0};
+            for (unsigned bit = 0; bit < w; bit++) {
+                vec chosen = where_bit(b, bit);
                 for (unsigned i = 0; i < n; i++)
-                    by[i] ^= multiple & choice[i][bit];
+                    by[i] ^= chosen & of_a[i][bit];
             }
             for (unsigned i = 0; i < s; i++) {
                 cross[i][s] = by[i] ^ z[i * (2 * n - i - 1) / 2 + s - i - 1];
@@ -229,13 +228,12 @@ INLINE void add_product(work *t, unsigned w, unsigned n, size_t to, unsigned bit
     t->mask = mask;
 }
 
-/* The flag's shares have one bit, so of row k's multiples only the row itself is needed. */
 INLINE void mix(work *t, unsigned w, unsigned n, size_t r, size_t j, size_t k)
 {
     uint8_t flag[4];
     get(t, n, r, j, flag);
     zero_flag(t, w, n, flag);
-    add_product(t, w, n, r, 1, flag, &t->row[k], j);
+    add_product(t, w, n, r, flag, k, j);
 }
 
 /* Whether the pivot is 0. */
@@ -275,24 +273,11 @@ INLINE void scale(work *t, unsigned w, unsigned n, size_t r, size_t j)
     }
 }
 
-/* Row r's multiples, once for all the Clears of column j: of_row[t] becomes x^t times it. */
-INLINE void prepare_clears(const work *t, unsigned w, unsigned n, size_t r, size_t j, planes of_row[8])
-{
-    const size_t end = t->columns + 1;
-    uint8_t(*const row)[STRIDE] = t->row[r];
-    for (unsigned s = 0; s < n; s++)
-        for (size_t c = j; c < end; c += LANES) {
-            vec b = load(row[s] + c);
-            for (unsigned bit = 0; bit < w; bit++, b = doubled_vec(w, b))
-                store(of_row[bit][s] + c, b);
-        }
-}
-
-INLINE void clear(work *t, unsigned w, unsigned n, planes of_row[8], size_t j, size_t k)
+INLINE void clear(work *t, unsigned w, unsigned n, size_t r, size_t j, size_t k)
 {
     uint8_t copy[4];
     get(t, n, k, j, copy);
-    add_product(t, w, n, k, w, copy, of_row, j);
+    add_product(t, w, n, k, copy, r, j);
 }
 
 INLINE uint8_t open_unknown(work *t, unsigned w, unsigned n, size_t r)
@@ -322,7 +307,6 @@ typedef struct {
 INLINE outcome run_list(work *t, unsigned w, unsigned n, bool wide, uint8_t *solution)
 {
     size_t pivots[96], r = 0, steps = 0;
-    planes of_row[8];
     for (size_t j = 0; j < t->columns && r < t->rows; j++) {
         for (size_t k = r + 1; k < t->rows; k++)
             mix(t, w, n, r, j, k);
@@ -333,9 +317,8 @@ INLINE outcome run_list(work *t, unsigned w, unsigned n, bool wide, uint8_t *sol
             break;
         }
         scale(t, w, n, r, j);
-        prepare_clears(t, w, n, r, j, of_row);
         for (size_t k = r + 1; k < t->rows; k++)
-            clear(t, w, n, of_row, j, k);
+            clear(t, w, n, r, j, k);
         steps += t->rows - r;
         pivots[r++] = j;
     }

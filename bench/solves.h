@@ -13,8 +13,8 @@ typedef uint64_t shared_solve(uint64_t field, uint64_t shares, uint64_t size, ui
 typedef uint64_t wide_solve(uint64_t field, uint64_t shares, uint64_t rows, uint64_t columns, uint8_t *table,
                             uint8_t *solution, const uint8_t *mask, const uint8_t *nonzero, uint64_t answer[4]);
 
-/* As fast as we could make it for plain x86-64 (SSE2) with every product of two shares
- * made by itself. The compiler may add them up in any order. */
+/* As fast as plain x86-64 (SSE2) allows with every product of two shares made by
+ * itself. The compiler may add them up in any order. */
 shared_solve best_solve;
 wide_solve best_wide_solve;
 

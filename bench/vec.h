@@ -62,12 +62,6 @@ INLINE vec where_bit(vec b, unsigned t)
     return (b >> t & 0x01010101u) * 0xffu;
 }
 
-/* All ones if bit t of b is 1. */
-INLINE vec if_bit(uint8_t b, unsigned t)
-{
-    return 0u - (b >> t & 1u);
-}
-
 #else
 
 INLINE vec all(unsigned byte)
@@ -82,32 +76,13 @@ INLINE vec where_bit(vec b, unsigned t)
     return (vec)((b & bit) == bit);
 }
 
-/* All ones if bit t of b is 1. Not 0 - bit, which is shorter: where gcc has another share beside
- * b in a register it takes both from 0, and what is borrowed adds the one to the other. */
-INLINE vec if_bit(uint8_t b, unsigned t)
-{
-    return where_bit(all(b), t);
-}
-
 #endif
 
-/* The field's polynomial, for w bits. */
-INLINE unsigned modulus(unsigned w)
-{
-    return w == 4 ? 0x13 : 0x11b;
-}
-
-/* a times x. */
+/* a times x, for w bits. */
 INLINE uint8_t doubled(unsigned w, uint8_t a)
 {
     unsigned twice = (unsigned)a << 1;
-    return (uint8_t)(twice ^ (twice >> w) * modulus(w));
-}
-
-INLINE vec doubled_vec(unsigned w, vec a)
-{
-    vec below_top = a & all((1u << (w - 1)) - 1);
-    return (below_top + below_top) ^ (where_bit(a, w - 1) & all(modulus(w) - (1u << w)));
+    return (uint8_t)(twice ^ (twice >> w) * (w == 4 ? 0x13u : 0x11bu));
 }
 
 /* a times 1, x, x^2 ..: with these a product is a choice for each bit of the
