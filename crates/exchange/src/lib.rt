@@ -16,7 +16,7 @@ ghost use Rattle.exchange.specs.Code.Header.{header_of};
 use verdict::{Refusal, Rows, Verdict};
 
 // What a record holds: its numbers, and the length of its table.
-#[derive(Drop)]
+#[derive(Clone, Copy)]
 pub struct System {
     pub field: u64,
     pub shares: u64,
@@ -24,13 +24,13 @@ pub struct System {
     pub length: usize,
 }
 
-#[derive(Drop)]
+#[derive(Clone, Copy)]
 pub enum Writing {
     Written,
     Refused(Refusal),
 }
 
-#[derive(Drop)]
+#[derive(Clone, Copy)]
 pub enum Reading {
     Found(System),
     Refused(Refusal),

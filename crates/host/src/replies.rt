@@ -12,7 +12,7 @@ use solver::{Counting, Filling, Solving, Stepping, Wanting};
 use verdict::Refusal;
 use wide::{WideCounting, WideSolving, WideStarting, WideStepping};
 
-#[derive(Drop)]
+#[derive(Clone, Copy)]
 pub struct Reply {
     pub code: u64,
     pub a: u64,

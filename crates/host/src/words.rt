@@ -9,7 +9,7 @@ use course::{Place, Progress, Step};
 use pattern::{Pivots, WideOrder, WidePlace, WideProgress};
 
 // A place as words: the step's number, j and k.
-#[derive(Drop)]
+#[derive(Clone, Copy)]
 pub struct Spot {
     pub step: u64,
     pub j: u64,

@@ -17,7 +17,7 @@ use verdict::{Refusal, Rows, Verdict};
 
 const MOST_ENTRIES: usize = (sharing::MOST_ROWS as usize) * sharing::MOST_WIDTH;
 
-#[derive(Drop)]
+#[derive(Clone, Copy)]
 pub enum Solving {
     Solved,
     Stopped(u64),

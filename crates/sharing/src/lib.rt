@@ -14,7 +14,7 @@ pub const MOST_ROWS: u64 = 96;
 pub const MOST_WIDTH: usize = 97;
 
 // The answer of an inversion: n factors whose product is the inverse; places not in use are 0.
-#[derive(Drop)]
+#[derive(Clone, Copy)]
 pub struct Factors {
     pub f: [u8; 4],
     pub n: usize,

@@ -15,39 +15,39 @@ use course::{Counts, Order, Place, Progress, Step};
 use verdict::{Refusal, Verdict};
 use walk::Ending;
 
-#[derive(Drop)]
+#[derive(Clone, Copy)]
 pub enum Starting {
     Fresh(Progress),
     Refused(Refusal),
 }
 
-#[derive(Drop)]
+#[derive(Clone, Copy)]
 pub enum Counting {
     Counted(Counts),
     Refused(Refusal),
 }
 
 // Mask draws and nonzero draws.
-#[derive(Drop)]
+#[derive(Clone, Copy)]
 pub enum Wanting {
     Wanted(usize, usize),
     Refused(Refusal),
 }
 
-#[derive(Drop)]
+#[derive(Clone, Copy)]
 pub enum Filling {
     Filled,
     Refused(Refusal),
 }
 
-#[derive(Drop)]
+#[derive(Clone, Copy)]
 pub enum Solving {
     Solved(Counts),
     Stopped(u64, Counts),
     Refused(Refusal),
 }
 
-#[derive(Drop)]
+#[derive(Clone, Copy)]
 pub enum Stepping {
     Moved,
     Opened(u64, u8),
@@ -57,7 +57,7 @@ pub enum Stepping {
 }
 
 // A step's answer, and the record at the following place; on a refusal the record as it was.
-#[derive(Drop)]
+#[derive(Clone, Copy)]
 pub struct Stepped {
     pub answer: Stepping,
     pub next: Progress,

@@ -11,7 +11,7 @@ ghost use Rattle.verdict.specs.Code.Verdicts.{told};
 ghost use Rattle.verdict.specs.Code.Scan.{some_bits, column_bits, block_bits, blocks_bits, TellsSmall};
 
 // Where an entry's byte stands: its row, its column and its share, each from 1. Share 0 says that it is of no single share.
-#[derive(Drop)]
+#[derive(Clone, Copy)]
 pub struct Cell {
     pub row: u64,
     pub column: u64,
@@ -19,14 +19,14 @@ pub struct Cell {
 }
 
 // What the bytes that a call reads are, in rows of `width` entries: sharings of so many bytes each, or values, which have no shares.
-#[derive(Drop)]
+#[derive(Clone, Copy)]
 pub enum Rows {
     Shared { shares: usize, width: usize },
     Values { width: usize },
 }
 
 // 01's table of refusals, with each one's detail.
-#[derive(Drop)]
+#[derive(Clone, Copy)]
 pub enum Refusal {
     // 1: the field's number
     Field(u64),
@@ -66,7 +66,7 @@ pub enum Refusal {
 }
 
 // A refusal as numbers: 01's number, and its detail; what the detail has not is 0.
-#[derive(Drop)]
+#[derive(Clone, Copy)]
 pub struct Report {
     pub number: u64,
     pub a: u64,
@@ -126,7 +126,7 @@ impl Refusal {
     }
 }
 
-#[derive(Drop)]
+#[derive(Clone, Copy)]
 pub enum Verdict {
     Pass,
     Refuse(Refusal),

@@ -17,7 +17,7 @@ ghost use Rattle.walk.specs.Dealing.{dealt_entry, deal_turn, dealt, gathered};
 use course::{Counts, Order, Place, Progress, Step};
 
 // How a solve ends, with the steps, mask draws and nonzero draws taken.
-#[derive(Drop)]
+#[derive(Clone, Copy)]
 pub enum Ending {
     Solved(Counts),
     Stopped(u64, Counts),

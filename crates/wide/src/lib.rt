@@ -16,27 +16,27 @@ use pattern::{Pivots, WideOrder, WidePlace, WideProgress};
 use verdict::{Refusal, Verdict};
 use wide_walk::WideEnding;
 
-#[derive(Drop)]
+#[derive(Clone, Copy)]
 pub enum WideStarting {
     Fresh,
     Refused(Refusal),
 }
 
 // An answer, and the fresh record; on a refusal a record that is all 0, and done.
-#[derive(Drop)]
+#[derive(Clone, Copy)]
 pub struct WideStarted {
     pub answer: WideStarting,
     pub record: WideProgress,
 }
 
 // Mask draws and nonzero draws.
-#[derive(Drop)]
+#[derive(Clone, Copy)]
 pub enum WideCounting {
     Wanted(usize, usize),
     Refused(Refusal),
 }
 
-#[derive(Drop)]
+#[derive(Clone, Copy)]
 pub enum WideSolving {
     Solved(Counts),
     Short(Counts),
@@ -44,7 +44,7 @@ pub enum WideSolving {
 }
 
 // Opened and Done carry the column and its unknown.
-#[derive(Drop)]
+#[derive(Clone, Copy)]
 pub enum WideStepping {
     Moved,
     Opened(u64, u8),
@@ -54,7 +54,7 @@ pub enum WideStepping {
 }
 
 // A step's answer, and the record at the following place; on a refusal the record as it was.
-#[derive(Drop)]
+#[derive(Clone, Copy)]
 pub struct WideStepped {
     pub answer: WideStepping,
     pub next: WideProgress,
