@@ -37,11 +37,11 @@ fn system(out: &impl Print) -> io::Result<()> {
     let mut table = [0u8; 12];
     let mut x = [0xeeu8; 2];
     solver::deal(256, 2, 2, b"\x57\x83\x01\x02\x03\x04", &mut table, &DRAWS);
-    let a = show::of_solving(solver::solve(256, 2, 2, &mut table, &mut x, &MASK, &[3, 6]));
+    let a = solver::solve(256, 2, 2, &mut table, &mut x, &MASK, &[3, 6]);
     show::text(out, "R-4's system: ")?;
-    show::say(out, a.verdict)?;
+    show::say(out, show::verdict(a))?;
     show::text(out, ": ")?;
-    show::say(out, a.taken)?;
+    show::say(out, show::taken(a))?;
     show::bytes(out, "\n  table", &table)?;
     show::bytes(out, "\n  solution", &x)?;
     show::text(out, "\n")

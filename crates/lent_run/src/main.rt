@@ -5,7 +5,7 @@
 #![tactic(auto)]
 
 use course::{Place, Progress, Step};
-use solver::{Starting, Stepped};
+use solver::{Starting, Stepped, Stepping};
 use std::io;
 
 // A host's own: the record, the table and the solution.
@@ -16,10 +16,10 @@ struct Host {
     solution: [u8; 2],
 }
 
-// One call's answer, in words, and the host after it.
+// One call's answer, and the host after it.
 #[derive(Clone, Copy)]
 struct Words {
-    answer: show::Words,
+    answer: Stepping,
     host: Host,
 }
 
@@ -45,7 +45,9 @@ fn same(g: Words, h: Words) -> bool {
     let k = h.host;
     let p = i.record;
     let q = k.record;
-    show::same(a, b) && show::same_record(p, q) && same_bytes(i, k)
+    show::same(show::of_stepping(a), show::of_stepping(b))
+        && show::same_record(p, q)
+        && same_bytes(i, k)
 }
 
 // A byte of F16 as a hexadecimal digit.
@@ -98,7 +100,7 @@ fn print_host(out: &impl Print, h: Host) -> io::Result<()> {
 fn print_told(out: &impl Print, t: Words) -> io::Result<()> {
     let a = t.answer;
     let h = t.host;
-    show::say(out, a)?;
+    show::say(out, show::of_stepping(a))?;
     print_host(out, h)
 }
 
@@ -119,8 +121,8 @@ fn by_value(h: Host, mask: &[u8], nonzero: &[u8]) -> Words {
 }
 
 fn outcome(r: Stepped, t: &[u8; 12], x: &[u8; 2]) -> Words {
+    let a = r.answer;
     let p = r.next;
-    let a = show::of_stepping(r.answer);
     let h = Host {
         record: p,
         table: *t,

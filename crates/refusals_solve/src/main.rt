@@ -5,7 +5,6 @@
 #![tactic(auto)]
 
 use course::Order;
-use show::REFUSED;
 use show::call::{BLANK, LARGEST, MASK, TABLE, ZERO_PIVOT, order};
 use solver::Solving;
 use std::io;
@@ -13,14 +12,18 @@ use std::io;
 // Rows (0,1),(0,3), b = (1,2), in two shares.
 const TWO_STOPS: [u8; 12] = [7, 7, 11, 10, 1, 0, 12, 12, 6, 5, 8, 10];
 
-fn say_solving(out: &impl Print, a: Solving) -> io::Result<()> {
-    let ended = show::of_solving(a);
-    show::say(out, ended.verdict)?;
-    if ended.verdict.word == REFUSED {
-        return Ok(());
-    }
+fn say_counts(out: &impl Print, a: Solving) -> io::Result<()> {
     show::text(out, ", counts ")?;
-    show::say(out, ended.taken)
+    show::say(out, show::taken(a))
+}
+
+fn say_solving(out: &impl Print, a: Solving) -> io::Result<()> {
+    show::say(out, show::verdict(a))?;
+    match a {
+        Solving::Solved(_) => say_counts(out, a),
+        Solving::Stopped(_, _) => say_counts(out, a),
+        Solving::Refused(_) => Ok(()),
+    }
 }
 
 fn begin_solve(

@@ -107,41 +107,22 @@ pub fn of_filling(f: Filling) -> Words {
     }
 }
 
-// How a solve ended, and its counts; of a refusal both are the refusal.
-#[derive(Clone, Copy)]
-pub struct Ended {
-    pub verdict: Words,
-    pub taken: Words,
-}
-
-pub fn of_solving(s: Solving) -> Ended {
-    match s {
-        Solving::Solved(c) => Ended {
-            verdict: tell(SOLVED, 0, 0, 0),
-            taken: of_counts(c),
-        },
-        Solving::Stopped(j, c) => Ended {
-            verdict: tell(STOPPED, j, 0, 0),
-            taken: of_counts(c),
-        },
-        Solving::Refused(r) => {
-            let refused = of_refusal(r);
-            Ended {
-                verdict: refused,
-                taken: refused,
-            }
-        }
-    }
-}
-
 // How a solve ended, without its counts.
 pub fn verdict(s: Solving) -> Words {
-    of_solving(s).verdict
+    match s {
+        Solving::Solved(_) => tell(SOLVED, 0, 0, 0),
+        Solving::Stopped(j, _) => tell(STOPPED, j, 0, 0),
+        Solving::Refused(r) => of_refusal(r),
+    }
 }
 
 // The counts of a solve, solved or stopped.
 pub fn taken(s: Solving) -> Words {
-    of_solving(s).taken
+    match s {
+        Solving::Solved(c) => of_counts(c),
+        Solving::Stopped(_, c) => of_counts(c),
+        Solving::Refused(r) => of_refusal(r),
+    }
 }
 
 pub fn of_stepping(s: Stepping) -> Words {

@@ -77,10 +77,10 @@ fn whole(
     x: &mut [u8],
     mask: &[u8],
 ) -> io::Result<()> {
-    let a = show::of_solving(solver::solve(o.field, o.shares, o.size, table, x, mask, &NONZERO));
-    show::say(out, a.verdict)?;
+    let a = solver::solve(o.field, o.shares, o.size, table, x, mask, &NONZERO);
+    show::say(out, show::verdict(a))?;
     show::text(out, ": ")?;
-    show::say(out, a.taken)?;
+    show::say(out, show::taken(a))?;
     show::text(out, "\n")?;
     show_left(out, table, x)
 }
