@@ -30,8 +30,8 @@ or_small a b h =
     let z = or-none (a / 16) (b / 16) (omega arith) in
     (omega (arith, z.0), omega (arith, z.1))
 
-small : (s : List ℕ) (n : ℕ) (g : ℕ → ℕ) → run (λ i v. bit_or v (g i)) n 0 < 16 → (i : ℕ) → i < n → g i < 16
-small s n g e =
+run_small : (s : List ℕ) (n : ℕ) (g : ℕ → ℕ) → run (λ i v. bit_or v (g i)) n 0 < 16 → (i : ℕ) → i < n → g i < 16
+run_small s n g e =
     run_holds (λ k v. v < 16 → (i : ℕ) → i < k → g i < 16) (λ i v. bit_or v (g i)) n
     (λ k h v H z i l. elim (ℕ_discrete i k) [
       | yes e ↦ rw e (or_small v (g k) z).1
@@ -48,16 +48,19 @@ below s h =
       ];
     }
 
-pub some_small : (s : List ℕ) → some_bits s < 16 → Below 16 s
+pub small : (s : List ℕ) → some_bits s < 16 → (i : ℕ) → i < length s → get_or s i 0 < 16
 unfolding some_bits
-some_small s e = below s (small s (length s) (λ i. get_or s i 0) e)
+small s e = run_small s (length s) (λ i. get_or s i 0) e
+
+pub some_small : (s : List ℕ) → some_bits s < 16 → Below 16 s
+some_small s e = below s (small s e)
 
 -- ---- by blocks
 
 module _ (s : List ℕ) (at : ℕ) where
   column-small : column_bits s at < 16 → (i : ℕ) → i < 8 → get_or s (at + i * 16) 0 < 16
   unfolding column_bits
-  column-small e = small s 8 (λ i. get_or s (at + i * 16) 0) e
+  column-small e = run_small s 8 (λ i. get_or s (at + i * 16) 0) e
 
 -- where the lanes are small in the end they were so before, and the bytes from `from` to `to` are
 pub record Looked (s : List ℕ) (from to : ℕ) (old new : List ℕ) : Type 0 where
@@ -139,9 +142,9 @@ unfolding F16 F256
 fits true x h = h
 fits false x h = omega arith
 
-pub none_too_large : (f : ℕ) (s : List ℕ) → Below 16 s → length s ≡ first_place (too_large f) s
+pub none_too_large-below : (f : ℕ) (s : List ℕ) → Below 16 s → length s ≡ first_place (too_large f) s
 unfolding too_large field_of
-none_too_large f s B =
+none_too_large-below f s B =
     scan-end (too_large f) s (length s)
     (upto (length s) (omega arith))
     (omega arith)
@@ -149,3 +152,6 @@ none_too_large f s B =
     upto : (k : ℕ) → k ≤ length s → Passed (too_large f) s k
     upto zero h = scan_start (too_large f) s
     upto (suc k) h = rw (← add-one) (scan_next (too_large f) s k (upto k (omega arith)) h (lt-leb _ _ (fits (eqb f 16) (get_or s k 0) (B.at k))))
+
+pub none_too_large : (f : ℕ) (s : List ℕ) → some_bits s < 16 → length s ≡ first_place (too_large f) s
+none_too_large f s e = none_too_large-below f s (some_small s e)

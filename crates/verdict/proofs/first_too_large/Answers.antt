@@ -2,12 +2,12 @@
 -- are below 16, none meets it.
 -- Assumes nothing.
 use borrow.Author.Rules.{rules}
-use Rattle.verdict.proofs.SomeBits.{none_too_large}
+use Rattle.verdict.proofs.SomeBits.{none_too_large-below}
 use Rattle.verdict.proofs.Scan.{scan_start, scan_next, scan_found, scan-end}
 use Rattle.verdict.proofs.first_too_large.Goals as goal
 
 pub returns-then-all_small : goal.returns-then-all_small
-returns-then-all_small c = let x = c.args in none_too_large x.f x.s.now (c.all_small.ensures c.if-all_small.true)
+returns-then-all_small c = let x = c.args in none_too_large-below x.f x.s.now (c.all_small.ensures c.if-all_small.true)
 
 pub loop-i-init : goal.loop-i-init
 loop-i-init c = (search rules, scan_start _ _)
