@@ -90,7 +90,6 @@ class Function:
             text = self.paths(text, found)
             heads |= found
         text = re.sub(r"\.taken\b", ".true", text)
-        text = re.sub(r"(?<=\w)\.left\b(?! )", ".left", text)
         def place(m):
             if key(m.group(1)) in self.places:
                 return "PLACE." + self.places[key(m.group(1))]
@@ -181,9 +180,8 @@ class Function:
                 continue
             decls.append({"raw": (pending + "\n" if pending else "") + b, "name": None})
             current, pending = None, ""
-        invariants, answers, helpers, used = [], [], [], set()
+        invariants, helpers = [], []
         spec_args = []
-        names = {}
         for d in decls:
             if d["name"] and "statement" in d["type"] and "tie.close" in "".join(d["clauses"]):
                 t = re.search(r"tie\.spec\b(.*)", d["clauses"][0], re.S)
@@ -202,7 +200,6 @@ class Function:
                 made = self.invariant(d, m.group(1))
                 if made:
                     invariants.append(made)
-                    names[d["name"]] = made
                 continue
             m = re.match(r"tie\.Need-([A-Za-z0-9_'-]+)(.*)$", d["type"], re.S)
             if m:
