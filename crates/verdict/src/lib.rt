@@ -10,8 +10,11 @@ ghost use Rattle.verdict.specs.Refusals.{paper, report_of, outside, first_place,
 ghost use Rattle.verdict.specs.Code.Verdicts.{told};
 ghost use Rattle.verdict.specs.Code.Scan.{some_bits, column_bits, block_bits, blocks_bits, TellsSmall};
 
+use std::error::Error;
+use std::fmt;
+
 // Where an entry's byte stands: its row, its column and its share, each from 1. Share 0 says that it is of no single share.
-#[derive(Clone, Copy)]
+#[derive(Clone, Copy, Debug, PartialEq, Eq)]
 pub struct Cell {
     pub row: u64,
     pub column: u64,
@@ -19,14 +22,14 @@ pub struct Cell {
 }
 
 // What the bytes that a call reads are, in rows of `width` entries: sharings of so many bytes each, or values, which have no shares.
-#[derive(Clone, Copy)]
+#[derive(Clone, Copy, Debug, PartialEq, Eq)]
 pub enum Rows {
     Shared { shares: usize, width: usize },
     Values { width: usize },
 }
 
 // 01's table of refusals, with each one's detail.
-#[derive(Clone, Copy)]
+#[derive(Clone, Copy, Debug, PartialEq, Eq)]
 pub enum Refusal {
     // 1: the field's number
     Field(u64),
@@ -66,7 +69,7 @@ pub enum Refusal {
 }
 
 // A refusal as numbers: 01's number, and its detail; what the detail has not is 0.
-#[derive(Clone, Copy)]
+#[derive(Clone, Copy, Debug, PartialEq, Eq)]
 pub struct Report {
     pub number: u64,
     pub a: u64,
@@ -125,6 +128,22 @@ impl Refusal {
         }
     }
 }
+
+// A number and its detail, as the programs print them.
+impl fmt::Display for Refusal {
+    fn fmt<W: fmt::Write>(&self, f: &mut fmt::Formatter<W>) -> fmt::Result {
+        let r = self.report();
+        write!(f, "refused {}", r.number)?;
+        match self {
+            Refusal::Entry(_) | Refusal::ZeroPivot(_) => {
+                write!(f, ", row {}, column {}, share {}", r.a, r.b, r.c)
+            }
+            _ => write!(f, ", detail {}", r.a),
+        }
+    }
+}
+
+impl Error for Refusal {}
 
 // r where the test holds.
 pub fn refuse_if(applies: bool, r: Refusal) -> Result<(), Refusal>
