@@ -205,8 +205,8 @@ fn some_bits(s: &[u8]) -> u8
     ensures { result ≡ some_bits s.now }
 {
     let mut v: u8 = 0;
-    for i in 0..s.len() {
-        v |= s[i];
+    for x in s {
+        v |= *x;
     }
     v
 }
@@ -217,10 +217,8 @@ fn column_bits(s: &[u8], at: usize) -> u8
     ensures { result ≡ column_bits s.now at }
 {
     let mut v: u8 = 0;
-    let mut p = at;
     for i in 0..8usize {
-        v |= s[p];
-        p += 16;
+        v |= s[at + i * 16];
     }
     v
 }
@@ -230,8 +228,8 @@ fn join_block(lanes: &mut [u8], s: &[u8], at: usize)
     requires { (length lanes.old ≡ 16) × (at + 128 ≤ length s.now) }
     ensures { lanes.new ≡ block_bits s.now at lanes.old }
 {
-    for q in 0..16 {
-        lanes[q] |= column_bits(s, at + q);
+    for (q, lane) in lanes.iter_mut().enumerate() {
+        *lane |= column_bits(s, at + q);
     }
 }
 
@@ -239,10 +237,8 @@ fn join_blocks(lanes: &mut [u8], s: &[u8], blocks: usize)
     requires { (length lanes.old ≡ 16) × (blocks * 128 ≤ length s.now) }
     ensures { lanes.new ≡ blocks_bits s.now blocks lanes.old }
 {
-    let mut at: usize = 0;
     for u in 0..blocks {
-        join_block(lanes, s, at);
-        at += 128;
+        join_block(lanes, s, u * 128);
     }
 }
 
