@@ -8,7 +8,7 @@ ghost use Rattle.course.specs.Next.{first_of, following, order_of, moved_on, sta
 ghost use Rattle.course.specs.Code.Closed.{flags_over, rows_over, part_at, part_of, Stands, Kept, weighed, mask_of, agrees};
 
 // One of the six steps with its j and k. Check, Scale, Open and Lift carry j only.
-#[derive(Clone, Copy)]
+#[derive(Clone, Copy, Debug, PartialEq, Eq)]
 pub enum Step {
     Mix { j: u64, k: u64 },
     Check(u64),
@@ -18,7 +18,7 @@ pub enum Step {
     Lift(u64),
 }
 
-#[derive(Clone, Copy)]
+#[derive(Clone, Copy, Debug, PartialEq, Eq)]
 pub enum Place {
     At(Step),
     Stopped(u64),
@@ -26,7 +26,7 @@ pub enum Place {
 }
 
 // Field, shares and size, as an order form has them.
-#[derive(Clone, Copy)]
+#[derive(Clone, Copy, Debug, PartialEq, Eq)]
 pub struct Order {
     pub field: u64,
     pub shares: u64,
@@ -34,7 +34,7 @@ pub struct Order {
 }
 
 // The progress record, with the draws taken so far.
-#[derive(Clone, Copy)]
+#[derive(Clone, Copy, Debug, PartialEq, Eq)]
 pub struct Progress {
     pub field: u64,
     pub shares: u64,
@@ -45,14 +45,14 @@ pub struct Progress {
 }
 
 // Mask draws and nonzero draws.
-#[derive(Clone, Copy)]
+#[derive(Clone, Copy, Debug, PartialEq, Eq)]
 pub struct Draws {
     pub mask: usize,
     pub nonzero: usize,
 }
 
 // Steps, mask draws and nonzero draws.
-#[derive(Clone, Copy)]
+#[derive(Clone, Copy, Debug, PartialEq, Eq)]
 pub struct Counts {
     pub steps: usize,
     pub mask: usize,
@@ -144,8 +144,8 @@ impl Progress {
         }
     }
 
-    // The record's sizes.
-    fn order(self) -> Order
+    // The record's field, shares and size.
+    pub fn order(self) -> Order
         ensures { result ≡ order_of self }
     {
         Order {
@@ -164,12 +164,10 @@ impl Progress {
     {
         let d = cost(self.order(), s);
         Progress {
-            field: self.field,
-            shares: self.shares,
-            size: self.size,
             place: place_after(self.size, s, x),
             mask: self.mask + d.mask as u64,
             nonzero: self.nonzero + d.nonzero as u64,
+            ..self
         }
     }
 }
@@ -237,7 +235,7 @@ pub fn cost(o: Order, s: Step) -> Draws
 // The draws taken at a place, with no walk over the list: refusal 19 asks for them in every step call. What a place has taken beside the columns
 // that are done: `width` is the columns of a row from the first column that is not done on (1 where all are), `flags` so many zero flags more, and
 // `more` and `less` so many times the N draws of all pairs.
-#[derive(Clone, Copy)]
+#[derive(Clone, Copy, Debug, PartialEq, Eq)]
 pub struct Part {
     pub width: usize,
     pub flags: usize,

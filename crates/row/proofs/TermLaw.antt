@@ -14,7 +14,8 @@ use lib.Pow.{pow_pos}
 use Rattle.field.specs.Poly.{product}
 use Rattle.field.specs.Field.{pick, binary, Binary, F16, F256, field_of, bits}
 use Rattle.field.proofs.Linear.{all}
-use Rattle.field.proofs.Shift.{double, shift_add, same?, shift_add-product, test4, test8}
+use Rattle.field.specs.Code.Shift.{double, shift_add}
+use Rattle.field.proofs.Shift.{same?, shift_add-product, test4, test8}
 use Rattle.sharing.proofs.Loops.{taken_more}
 use Rattle.row.specs.Code.Products.{term}
 use Rattle.row.specs.Code.Streams.{doubled}
