@@ -7,6 +7,8 @@ ghost use Rattle.course.specs.StepList.{Sizes, in_list, column_of, cost_in, cost
 ghost use Rattle.course.specs.Next.{first_of, following, order_of, moved_on, start_of};
 ghost use Rattle.course.specs.Code.Closed.{flags_over, rows_over, part_at, part_of, Stands, Kept, weighed, mask_of, agrees};
 
+use std::fmt;
+
 // One of the six steps with its j and k. Check, Scale, Open and Lift carry j only.
 #[derive(Clone, Copy, Debug, PartialEq, Eq)]
 pub enum Step {
@@ -57,6 +59,59 @@ pub struct Counts {
     pub steps: usize,
     pub mask: usize,
     pub nonzero: usize,
+}
+
+// How the programs print them.
+impl fmt::Display for Step {
+    fn fmt<W: fmt::Write>(&self, f: &mut fmt::Formatter<W>) -> fmt::Result {
+        match self {
+            Step::Mix { j, k } => write!(f, "Mix({j},{k})"),
+            Step::Check(j) => write!(f, "Check({j})"),
+            Step::Scale(j) => write!(f, "Scale({j})"),
+            Step::Clear { j, k } => write!(f, "Clear({j},{k})"),
+            Step::Open(j) => write!(f, "Open({j})"),
+            Step::Lift(j) => write!(f, "Lift({j})"),
+        }
+    }
+}
+
+impl fmt::Display for Place {
+    fn fmt<W: fmt::Write>(&self, f: &mut fmt::Formatter<W>) -> fmt::Result {
+        match self {
+            Place::At(s) => write!(f, "{s}"),
+            Place::Stopped(j) => write!(f, "Stopped({j})"),
+            Place::Done => write!(f, "Done"),
+        }
+    }
+}
+
+impl fmt::Display for Order {
+    fn fmt<W: fmt::Write>(&self, f: &mut fmt::Formatter<W>) -> fmt::Result {
+        write!(
+            f,
+            "field {}, shares {}, size {}",
+            self.field, self.shares, self.size
+        )
+    }
+}
+
+impl fmt::Display for Progress {
+    fn fmt<W: fmt::Write>(&self, f: &mut fmt::Formatter<W>) -> fmt::Result {
+        write!(
+            f,
+            "{}, at {}, taken {} and {}",
+            self.order(),
+            self.place,
+            self.mask,
+            self.nonzero
+        )
+    }
+}
+
+impl fmt::Display for Counts {
+    fn fmt<W: fmt::Write>(&self, f: &mut fmt::Formatter<W>) -> fmt::Result {
+        write!(f, "{} {} {}", self.steps, self.mask, self.nonzero)
+    }
 }
 
 // Whether a step is one of the list of size m.
