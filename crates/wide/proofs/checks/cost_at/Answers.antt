@@ -1,11 +1,12 @@
 -- `checks::cost_at` meets its contract, place by place.
 -- Assumes nothing.
+use mathlib.Core.Logic.{inl, inr}
 use mathlib.Core.Path.{◌≡◌}
 use lib.ListN.{length}
+use Rattle.std.proofs.Common.{rules}
 use Rattle.sharing.specs.Bounds.{most_rows}
 use Rattle.pattern.proofs.Placed.{placed_at}
 use Rattle.wide.specs.WideRefusals.{cost_at}
-use borrow.Author.Rules.{rules}
 use Rattle.wide.proofs.checks.cost_at.Goals as goal
 
 pub cost-requires : goal.cost-requires
@@ -20,8 +21,4 @@ returns-in-At c = rw c.in-At.is c.cost.ensures
 
 pub returns-in-Short : goal.returns-in-Short
 unfolding cost_at
-returns-in-Short c = rw c.in-Short.is
-
-pub returns-in-Done : goal.returns-in-Done
-unfolding cost_at
-returns-in-Done c = rw c.in-Done.is
+returns-in-Short c = elim c.in-Short.is [ inl e ↦ rw e | inr e ↦ rw e ]

@@ -1,14 +1,18 @@
--- `checks::placing` meets its contract: a refusal of the lengths stands, and after a pass the order is the rest of it.
+-- `checks::placing` meets its contract: each check in its order, and the first that refuses stands.
 -- Assumes nothing.
-use mathlib.Core.Path.{◌∙◌}
-use Rattle.verdict.proofs.Verdicts.{stops_at, goes_on, ors}
+use Rattle.std.proofs.Common.{rules}
+use Rattle.verdict.specs.Told.{◌or◌}
 use Rattle.wide.specs.WideRefusals.{placing}
 use Rattle.wide.proofs.checks.placing.Goals as goal
 
-pub returns-in_default : goal.returns-in_default
-unfolding placing
-returns-in_default c = stops_at _ _ _ _ (rw (← c.whole_table.ensures) (ors c.or_else-v.ensures c.no4.ensures c.no5.ensures)) c.in_default.is
+pub returns-in_err-no4 : goal.returns-in_err-no4
+unfolding placing ◌or◌
+returns-in_err-no4 c = search rules
+
+pub returns-in_err-no5 : goal.returns-in_err-no5
+unfolding placing ◌or◌
+returns-in_err-no5 c = search rules
 
 pub returns : goal.returns
-unfolding placing
-returns c = c.standing.ensures ∙ goes_on _ _ _ (rw (← c.whole_table.ensures) (ors c.or_else-v.ensures c.no4.ensures c.no5.ensures)) c.in-Pass.is
+unfolding placing ◌or◌
+returns c = search rules

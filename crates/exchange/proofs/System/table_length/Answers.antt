@@ -4,15 +4,15 @@ use mathlib.Core.Path.{refl}
 use native.Mathlib.Omega.{arith}
 use Rattle.verdict.specs.Cells.{bytes_of}
 use Rattle.exchange.proofs.Admitted.{entries_few, table_few}
-use Rattle.exchange.proofs.table_length.Goals as goal
+use Rattle.exchange.proofs.System.table_length.Goals as goal
 
 pub overflow_mul-result : goal.overflow_mul-result
-overflow_mul-result c = omega (arith, entries_few c.args.size c.requires.1)
+overflow_mul-result c = omega (arith, entries_few c.args.self.size c.requires.1)
 
 pub overflow_mul-result-2 : goal.overflow_mul-result-2
 unfolding bytes_of
-overflow_mul-result-2 c = omega (arith, table_few c.args.shares c.args.size c.requires.0 c.requires.1)
+overflow_mul-result-2 c = omega (arith, table_few c.args.self.shares c.args.self.size c.requires.0 c.requires.1)
 
 pub returns : goal.returns
 unfolding bytes_of
-returns c = (refl, table_few c.args.shares c.args.size c.requires.0 c.requires.1)
+returns c = (refl, table_few c.args.self.shares c.args.self.size c.requires.0 c.requires.1)
