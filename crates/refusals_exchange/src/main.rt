@@ -318,11 +318,10 @@ fn orders_of_read(out: &impl Print) -> io::Result<()> {
 // What is written of two equations in F16 in two shares.
 fn read_written(out: &impl Print, words: &str, table: &[u8]) -> io::Result<()> {
     let mut x = [0u8; 31];
-    let a = exchange::write(16, 2, 2, table, &mut x[..]);
-    if let Writing::Written = a {
-        read(out, words, &x[..])?;
+    match exchange::write(16, 2, 2, table, &mut x) {
+        Ok(()) => read(out, words, &x),
+        Err(_) => Ok(()),
     }
-    Ok(())
 }
 
 fn reads_accepted(out: &impl Print) -> io::Result<()> {
