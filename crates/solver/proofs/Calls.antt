@@ -13,7 +13,9 @@ use Rattle.walk.specs.declared.Ending.{Ending}
 use Rattle.walk.specs.Act.{Held, held, opened, acted}
 use Rattle.walk.specs.Walk.{Solution, leaves}
 use Rattle.verdict.specs.Calls.{Says, gives, after}
-use Rattle.solver.specs.Calls.{solve_does, Stride, moved, tells, lent, step_does}
+use Rattle.solver.specs.declared.Stride.{Stride}
+use Rattle.solver.specs.declared.Stride.TheVariants.{Moved}
+use Rattle.solver.specs.Calls.{solve_does, tells, lent, step_does}
 
 -- the ending of a solve, and what it leaves
 pub solve_done : (a : Says Ending) (e : Ending) (t x : List ℕ) (s : Solution) → a ≡ gives e → leaves e t x ≡ s → after a (held t x) ≡ solve_does s
@@ -28,7 +30,7 @@ module _ (p : Progress) (place : Place) (h : Held) (mask nonzero : List ℕ) whe
 
 -- a place that is no step changes nothing
 pub step_stays : (p : Progress) (place : Place) (h : Held) (mask nonzero : List ℕ) → ((s : Step) → place ≡ At s → ⊥)
-    → after (gives moved) (lent p h) ≡ step_does p place h mask nonzero
+    → after (gives Moved) (lent p h) ≡ step_does p place h mask nonzero
 unfolding step_does
 step_stays p (At s) h mask nonzero ended = absurd (ended s refl)
 step_stays p (Stopped j) h mask nonzero ended = refl

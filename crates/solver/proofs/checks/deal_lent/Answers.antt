@@ -1,10 +1,13 @@
--- `checks::deal_lent` meets its contract: each check tells what its definition says, and they are joined in its order.
+-- `checks::deal_lent` meets its contract: each check in its order, and the first that refuses stands.
 -- Assumes nothing.
-use Rattle.verdict.proofs.Verdicts.{ors}
+use Rattle.std.proofs.Common.{rules}
+use Rattle.verdict.specs.Told.{◌or◌}
 use Rattle.solver.proofs.checks.deal_lent.Goals as goal
 
+pub returns-in_err-buffers : goal.returns-in_err-buffers
+unfolding ◌or◌
+returns-in_err-buffers c = search rules
+
 pub returns : goal.returns
-returns c =
-    rw (← c.deal_draws-draws.ensures, ← c.value_rows-rows.ensures.0)
-    (rw (← c.entry_count.ensures.0, ← c.whole_table.ensures)
-    (ors c.or_else.ensures c.buffers-v.ensures c.no7.ensures))
+unfolding ◌or◌
+returns c = search rules

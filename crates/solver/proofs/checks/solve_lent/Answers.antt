@@ -1,15 +1,13 @@
--- `checks::solve_lent` meets its contract: a refusal of the buffers stands, and after a pass the order is the rest of it.
+-- `checks::solve_lent` meets its contract: each check in its order, and the first that refuses stands.
 -- Assumes nothing.
-use mathlib.Core.Path.{◌∙◌}
-use Rattle.verdict.proofs.Verdicts.{stops_at, goes_on}
+use Rattle.std.proofs.Common.{rules}
+use Rattle.verdict.specs.Told.{◌or◌}
 use Rattle.solver.proofs.checks.solve_lent.Goals as goal
 
-pub returns-in_default : goal.returns-in_default
-returns-in_default c =
-    let b = c in
-    rw (← b.table_rows-rows.ensures.0, ← b.whole_table.ensures) (stops_at _ _ _ _ b.buffers-v.ensures c.in_default.is)
+pub returns-in_err-buffers : goal.returns-in_err-buffers
+unfolding ◌or◌
+returns-in_err-buffers c = search rules
 
 pub returns : goal.returns
-returns c =
-    let b = c in
-    rw (← b.table_rows-rows.ensures.0, ← b.whole_table.ensures) (c.tapes.ensures ∙ goes_on _ _ _ b.buffers-v.ensures c.in-Pass.is)
+unfolding ◌or◌
+returns c = search rules
