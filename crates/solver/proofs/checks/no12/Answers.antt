@@ -28,9 +28,9 @@ opens_zero-zero-requires c =
     let e = c.in-At.is ∙ ap At c.in-Scale.is in
     let long = rw e at p.p_in_bounds in
     record {
-      bounded = square p.sizes;
+      shaped = record { bounded = square p.sizes; bytes = p.table_len };
       inside = pivot_cell c.args.o _ (at-step c.args.o _ _ e p.p_value);
-      table_len = (p.table_len, long.0, long.1);
+      draws = (long.0, long.1);
     }
 
 pub returns : goal.returns
