@@ -6,13 +6,14 @@
 
 ghost use Rattle.std.specs.Prelude.{◌≡◌, ◌+◌, ◌-◌, ◌≤◌, length, take};
 ghost use Rattle.sharing.specs.Bounds.{most_rows};
-ghost use Rattle.table.specs.Layout.{table_bytes, row_from, put_row};
+ghost use Rattle.table.specs.Layout.{Inside, cell, table_bytes, row_from, put_row};
 ghost use Rattle.verdict.specs.Calls.{after};
 ghost use Rattle.verdict.specs.Code.Verdicts.{told};
 ghost use Rattle.plain.specs.Elimination.{seek, exchange, scale, clear, clear_below, column, eliminate, unknowns};
 ghost use Rattle.plain.specs.Calls.{plain_says, plain_order, plain_does, plain_call, Tells};
 ghost use Rattle.plain.specs.Code.Worked.{worked_as};
 
+use table::{Minus, Shape};
 use verdict::{Refusal, Rows, Verdict};
 
 const MOST_ENTRIES: usize = (sharing::MOST_ROWS as usize) * sharing::MOST_WIDTH;
@@ -24,14 +25,28 @@ pub enum Solving {
     Refused(Refusal),
 }
 
+// The byte of row r, column j.
+fn cell(f: u64, m: usize, r: usize, j: usize) -> usize
+    requires { (m ≤ most_rows) × Inside m (m + 1) r j }
+    ensures { result ≡ cell 1 (m + 1) r j }
+{
+    let shape = Shape {
+        field: f,
+        shares: 1,
+        rows: m,
+        columns: m + 1,
+    };
+    table::cell(shape, r, j)
+}
+
 // The first row from row j down that has a pivot for column j, or m + 1.
-fn seek(m: usize, t: &[u8], j: usize) -> usize
+fn seek(f: u64, m: usize, t: &[u8], j: usize) -> usize
     requires { (m ≤ most_rows) × (1 ≤ j) × (j ≤ m) × (length t.now ≡ table_bytes 1 m (m + 1)) }
     ensures { result ≡ seek (m + 1) j t.now (m + 1 - j) j }
 {
     let mut r = j;
     while r <= m {
-        let p = table::cell(1, m, m + 1, r, j);
+        let p = cell(f, m, r, j);
         if t[p] != 0 {
             return r;
         }
@@ -41,38 +56,38 @@ fn seek(m: usize, t: &[u8], j: usize) -> usize
 }
 
 // A copy of row r from column j on, at the front of an array that has room for any row.
-fn row_from(m: usize, t: &[u8], r: usize, j: usize) -> [u8; sharing::MOST_WIDTH]
+fn row_from(f: u64, m: usize, t: &[u8], r: usize, j: usize) -> [u8; sharing::MOST_WIDTH]
     requires m_le_most_rows { (m ≤ most_rows) × (1 ≤ j) × (j ≤ m) × (1 ≤ r) × (r ≤ m) }
     requires t_len { length t.now ≡ table_bytes 1 m (m + 1) }
     ensures { take (m + 2 - j) result ≡ row_from 1 (m + 1) r j t.now }
 {
     let len = m + 2 - j;
-    let p = table::cell(1, m, m + 1, r, j);
+    let p = cell(f, m, r, j);
     let mut row = [0u8; sharing::MOST_WIDTH];
     sharing::copy_into(&mut row[..len], &t[p..p + len]);
     row
 }
 
-fn put_row(m: usize, t: &mut [u8], r: usize, j: usize, row: &[u8])
+fn put_row(f: u64, m: usize, t: &mut [u8], r: usize, j: usize, row: &[u8])
     requires m_le_most_rows { (m ≤ most_rows) × (1 ≤ j) × (j ≤ m) × (1 ≤ r) × (r ≤ m) }
     requires t_len { (length t.old ≡ table_bytes 1 m (m + 1)) × (length row.now ≡ m + 2 - j) }
     ensures { t.new ≡ put_row 1 (m + 1) r j row.now t.old }
 {
-    let p = table::cell(1, m, m + 1, r, j);
+    let p = cell(f, m, r, j);
     sharing::copy_into(&mut t[p..p + row.len()], row);
 }
 
 // Rows a and b change places, from column j on.
-fn exchange(m: usize, t: &mut [u8], a: usize, b: usize, j: usize)
+fn exchange(f: u64, m: usize, t: &mut [u8], a: usize, b: usize, j: usize)
     requires m_le_most_rows { (m ≤ most_rows) × (1 ≤ j) × (j ≤ m) × (1 ≤ a) × (a ≤ m) × (1 ≤ b) × (b ≤ m) }
     requires t_len { length t.old ≡ table_bytes 1 m (m + 1) }
     ensures { t.new ≡ exchange (m + 1) a b j t.old }
 {
     let columns = m + 2 - j;
-    let row_a = row_from(m, &t[..], a, j);
-    let row_b = row_from(m, &t[..], b, j);
-    put_row(m, t, a, j, &row_b[..columns]);
-    put_row(m, t, b, j, &row_a[..columns]);
+    let row_a = row_from(f, m, &t[..], a, j);
+    let row_b = row_from(f, m, &t[..], b, j);
+    put_row(f, m, t, a, j, &row_b[..columns]);
+    put_row(f, m, t, b, j, &row_a[..columns]);
 }
 
 // Row j times the inverse of its pivot.
@@ -81,7 +96,7 @@ fn scale(f: u64, m: usize, t: &mut [u8], j: usize)
     ensures { t.new ≡ scale f (m + 1) j t.old }
 {
     let len = m + 2 - j;
-    let p = table::cell(1, m, m + 1, j, j);
+    let p = cell(f, m, j, j);
     let z = field::inverse(f, t[p]);
     sharing::scale_opened(f, &mut t[p..p + len], z);
 }
@@ -93,11 +108,11 @@ fn clear(f: u64, m: usize, t: &mut [u8], j: usize, k: usize)
     ensures { t.new ≡ clear f (m + 1) j k t.old }
 {
     let len = m + 2 - j;
-    let p = table::cell(1, m, m + 1, k, j);
+    let p = cell(f, m, k, j);
     let z = t[p];
-    let mut row = row_from(m, &t[..], j, j);
+    let mut row = row_from(f, m, &t[..], j, j);
     sharing::scale_opened(f, &mut row[..len], z);
-    table::join(f, true, &mut t[p..p + len], &row[..len]);
+    table::join::<Minus>(f, &mut t[p..p + len], &row[..len]);
 }
 
 fn clear_below(f: u64, m: usize, t: &mut [u8], j: usize)
@@ -115,7 +130,7 @@ fn column(f: u64, m: usize, t: &mut [u8], j: usize, k: usize)
     requires t_len { length t.old ≡ table_bytes 1 m (m + 1) }
     ensures { t.new ≡ column f m j k t.old }
 {
-    exchange(m, t, j, k, j);
+    exchange(f, m, t, j, k, j);
     scale(f, m, t, j);
     clear_below(f, m, t, j);
 }
@@ -127,7 +142,7 @@ fn eliminate(f: u64, m: usize, t: &mut [u8]) -> usize
 {
     let mut j: usize = 1;
     while j <= m {
-        let k = seek(m, &t[..], j);
+        let k = seek(f, m, &t[..], j);
         if m < k {
             return j;
         }
@@ -142,12 +157,18 @@ fn unknowns(f: u64, m: usize, t: &mut [u8], solution: &mut [u8])
     requires { (m ≤ most_rows) × (length t.old ≡ table_bytes 1 m (m + 1)) × (length solution.old ≡ m) }
     ensures { solution.new ≡ unknowns f m m t.old solution.old }
 {
+    let shape = Shape {
+        field: f,
+        shares: 1,
+        rows: m,
+        columns: m + 1,
+    };
     let mut j = m;
     while 0 < j {
-        let p = table::cell(1, m, m + 1, j, m + 1);
+        let p = table::cell(shape, j, m + 1);
         let x = t[p];
         solution[j - 1] = x;
-        table::lift(f, 1, m, m + 1, t, j, j, x);
+        table::lift(shape, t, j, j, x);
         j -= 1;
     }
 }

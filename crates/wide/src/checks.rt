@@ -11,6 +11,7 @@ ghost use Rattle.wide.specs.WideRefusals.{no1, sizes, whole_table, table_rows, s
 
 use course::{Draws, Step};
 use pattern::{Pivots, WideOrder, WidePlace, WideProgress};
+use table::Shape;
 use verdict::{Cell, Refusal, Rows};
 
 fn no1(field: u64) -> Result<(), Refusal>
@@ -173,17 +174,13 @@ fn no12(
         return Ok(());
     };
     let r = pattern::row_of(v, s);
-    let zero = table::opens_zero(
-        o.field,
-        o.shares as usize,
-        o.rows as usize,
-        o.columns as usize + 1,
-        table,
-        r,
-        j as usize,
-        nonzero,
-        mask,
-    );
+    let shape = Shape {
+        field: o.field,
+        shares: o.shares as usize,
+        rows: o.rows as usize,
+        columns: o.columns as usize + 1,
+    };
+    let zero = table::opens_zero(shape, table, r, j as usize, nonzero, mask);
     verdict::refuse_if(
         zero,
         Refusal::ZeroPivot(Cell {
