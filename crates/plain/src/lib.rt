@@ -7,22 +7,22 @@
 ghost use Rattle.std.specs.Prelude.{◌≡◌, ◌+◌, ◌-◌, ◌≤◌, length, take};
 ghost use Rattle.sharing.specs.Bounds.{most_rows};
 ghost use Rattle.table.specs.Layout.{Inside, cell, table_bytes, row_from, put_row};
-ghost use Rattle.verdict.specs.Calls.{after};
+ghost use Rattle.verdict.specs.Calls.{gives, after};
 ghost use Rattle.verdict.specs.Code.Verdicts.{told};
 ghost use Rattle.plain.specs.Elimination.{seek, exchange, scale, clear, clear_below, column, eliminate, unknowns};
-ghost use Rattle.plain.specs.Calls.{plain_says, plain_order, plain_does, plain_call, Tells};
-ghost use Rattle.plain.specs.Code.Worked.{worked_as};
+ghost use Rattle.plain.specs.Calls.{answer, plain_says, plain_order, plain_does, plain_call, Tells};
+ghost use Rattle.plain.specs.Code.Worked.{one_of, worked_as};
 
 use table::{Minus, Shape};
-use verdict::{Refusal, Rows, Verdict};
+use verdict::{Refusal, Rows};
 
 const MOST_ENTRIES: usize = (sharing::MOST_ROWS as usize) * sharing::MOST_WIDTH;
 
-#[derive(Clone, Copy)]
-pub enum Solving {
+// What the solve has come to: the solution, or a column that has no pivot.
+#[derive(Clone, Copy, Debug, PartialEq, Eq)]
+pub enum Ending {
     Solved,
     Stopped(u64),
-    Refused(Refusal),
 }
 
 // The byte of row r, column j.
@@ -39,20 +39,18 @@ fn cell(f: u64, m: usize, r: usize, j: usize) -> usize
     table::cell(shape, r, j)
 }
 
-// The first row from row j down that has a pivot for column j, or m + 1.
-fn seek(f: u64, m: usize, t: &[u8], j: usize) -> usize
+// The first row from row j down that has a pivot for column j.
+fn seek(f: u64, m: usize, t: &[u8], j: usize) -> Option<usize>
     requires { (m ≤ most_rows) × (1 ≤ j) × (j ≤ m) × (length t.now ≡ table_bytes 1 m (m + 1)) }
-    ensures { result ≡ seek (m + 1) j t.now (m + 1 - j) j }
+    ensures { result ≡ one_of m (seek (m + 1) j t.now (m + 1 - j) j) }
 {
-    let mut r = j;
-    while r <= m {
+    for r in j..=m {
         let p = cell(f, m, r, j);
         if t[p] != 0 {
-            return r;
+            return Some(r);
         }
-        r += 1;
     }
-    r
+    None
 }
 
 // A copy of row r from column j on, at the front of an array that has room for any row.
@@ -64,7 +62,7 @@ fn row_from(f: u64, m: usize, t: &[u8], r: usize, j: usize) -> [u8; sharing::MOS
     let len = m + 2 - j;
     let p = cell(f, m, r, j);
     let mut row = [0u8; sharing::MOST_WIDTH];
-    sharing::copy_into(&mut row[..len], &t[p..p + len]);
+    row[..len].copy_from_slice(&t[p..p + len]);
     row
 }
 
@@ -74,7 +72,7 @@ fn put_row(f: u64, m: usize, t: &mut [u8], r: usize, j: usize, row: &[u8])
     ensures { t.new ≡ put_row 1 (m + 1) r j row.now t.old }
 {
     let p = cell(f, m, r, j);
-    sharing::copy_into(&mut t[p..p + row.len()], row);
+    t[p..p + row.len()].copy_from_slice(row);
 }
 
 // Rows a and b change places, from column j on.
@@ -119,8 +117,8 @@ fn clear_below(f: u64, m: usize, t: &mut [u8], j: usize)
     requires { (m ≤ most_rows) × (1 ≤ j) × (j ≤ m) × (length t.old ≡ table_bytes 1 m (m + 1)) }
     ensures { t.new ≡ clear_below f m j t.old }
 {
-    for i in 0..m - j {
-        clear(f, m, t, j, j + 1 + i);
+    for k in j + 1..=m {
+        clear(f, m, t, j, k);
     }
 }
 
@@ -135,21 +133,18 @@ fn column(f: u64, m: usize, t: &mut [u8], j: usize, k: usize)
     clear_below(f, m, t, j);
 }
 
-// Column after column: 0, or the first column that has no pivot.
-fn eliminate(f: u64, m: usize, t: &mut [u8]) -> usize
+// Column after column: the first that has no pivot, or none.
+fn eliminate(f: u64, m: usize, t: &mut [u8]) -> Option<usize>
     requires { (m ≤ most_rows) × (length t.old ≡ table_bytes 1 m (m + 1)) }
     ensures { worked_as result t.new ≡ eliminate f m m 1 t.old }
 {
-    let mut j: usize = 1;
-    while j <= m {
-        let k = seek(f, m, &t[..], j);
-        if m < k {
-            return j;
-        }
+    for j in 1..=m {
+        let Some(k) = seek(f, m, &t[..], j) else {
+            return Some(j);
+        };
         column(f, m, t, j, k);
-        j += 1;
     }
-    0
+    None
 }
 
 // Back substitution, from the last unknown to the first.
@@ -163,56 +158,50 @@ fn unknowns(f: u64, m: usize, t: &mut [u8], solution: &mut [u8])
         rows: m,
         columns: m + 1,
     };
-    let mut j = m;
-    while 0 < j {
+    for j in (1..=m).rev() {
         let p = table::cell(shape, j, m + 1);
         let x = t[p];
         solution[j - 1] = x;
         table::lift(shape, t, j, j, x);
-        j -= 1;
     }
 }
 
 // The solve on the copy of the values.
-fn work(f: u64, m: usize, t: &mut [u8], solution: &mut [u8]) -> Solving
+fn work(f: u64, m: usize, t: &mut [u8], solution: &mut [u8]) -> Ending
     requires { (m ≤ most_rows) × (length t.old ≡ table_bytes 1 m (m + 1)) × (length solution.old ≡ m) }
-    ensures { after (plain_says result) solution.new ≡ plain_does f m t.old solution.old }
+    ensures { after (gives (answer result)) solution.new ≡ plain_does f m t.old solution.old }
 {
-    let j = eliminate(f, m, t);
-    if j == 0 {
-        unknowns(f, m, t, solution);
-        Solving::Solved
-    } else {
-        sharing::wipe(solution);
-        Solving::Stopped(j as u64)
+    match eliminate(f, m, t) {
+        None => {
+            unknowns(f, m, t, solution);
+            Ending::Solved
+        }
+        Some(j) => {
+            solution.fill(0);
+            Ending::Stopped(j as u64)
+        }
     }
 }
 
 // 1, 3, 4, 5, 6
-fn check(field: u64, size: u64, values: &[u8], length: usize) -> Verdict
+fn check(field: u64, size: u64, values: &[u8], length: usize) -> Result<(), Refusal>
     ensures { told result ≡ plain_order field size values.now length }
 {
-    let v = verdict::or_else(verdict::no1(field), verdict::no3(size));
-    let Verdict::Pass = v else {
-        return v;
-    };
+    verdict::no1(field)?;
+    verdict::no3(size)?;
     let m = size as usize;
     let rows = Rows::Values { width: m + 1 };
     verdict::buffers(field, rows, m * (m + 1), values, m, length)
 }
 
 // The plain solve. The first promise fixes the answer and every lent byte; the second says what the answer means.
-pub fn solve(field: u64, size: u64, values: &[u8], solution: &mut [u8]) -> Solving
+pub fn solve(field: u64, size: u64, values: &[u8], solution: &mut [u8]) -> Result<Ending, Refusal>
     ensures outcome { after (plain_says result) solution.new ≡ plain_call field size values.now solution.old }
     ensures meaning { Tells field size values.now (plain_says result) solution.new }
 {
-    match check(field, size, values, solution.len()) {
-        Verdict::Refuse(r) => Solving::Refused(r),
-        Verdict::Pass => {
-            let len = values.len();
-            let mut t = [0u8; MOST_ENTRIES];
-            sharing::copy_into(&mut t[..len], values);
-            work(field, size as usize, &mut t[..len], solution)
-        }
-    }
+    check(field, size, values, solution.len())?;
+    let mut copy = [0u8; MOST_ENTRIES];
+    let t = &mut copy[..values.len()];
+    t.copy_from_slice(values);
+    Ok(work(field, size as usize, t, solution))
 }

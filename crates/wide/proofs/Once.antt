@@ -15,40 +15,46 @@ use Rattle.wide.specs.declared.WideStride.{WideStride}
 use Rattle.wide.specs.declared.WideStepped.{WideStepped}
 use Rattle.wide.specs.WideCalls.{step_says, left_by, Lent, lent}
 
-module _ {A : Type 0} where
-  answer : Says A → Result A Refusal
-  answer (refuses l) = Err (back l)
-  answer (gives a) = Ok a
+says_back : {A : Type 0} → Says A → Result A Refusal
+says_back (refuses l) = Err (back l)
+says_back (gives a) = Ok a
 
-  answer_back : (x : Result A Refusal) → answer (says x) ≡ x
-  unfolding answer
-  answer_back (Ok a) = refl
-  answer_back (Err r) = ap Err (back-paper r)
+back_says : {A : Type 0} (s : Result A Refusal) → says_back (says s) ≡ s
+unfolding says_back
+back_says (Ok a) = refl
+back_says (Err r) = ap Err (back-paper r)
 
--- so of Start, of the counts and of Wanted, and of Solve, each with what it is lent
-pub start_once : Once {A = WideProgress} says Nothing
-start_once = only says answer answer_back
+once_lem : {A L : Type 0} → Once {E = Result A Refusal} says L
+once_lem = only says says_back back_says
 
-pub counts_once : Once {A = Draws} says Nothing
-counts_once = only says answer answer_back
+-- so of Start, of the counts and of Wanted, of Solve and of Step, each with what it is lent
+pub start_once : Once {E = Result WideProgress Refusal} says Nothing
+start_once = once_lem
 
-pub solve_once : Once {A = WideEnding} says Held
-solve_once = only says answer answer_back
+pub counts_once : Once {E = Result Draws Refusal} says Nothing
+counts_once = once_lem
 
--- of Step
-step_back_lem : Says WideStride → WideProgress → Result WideStepped Refusal
-step_back_lem (refuses l) n = Err (back l)
-step_back_lem (gives a) n = Ok (record { told = a; next = n })
+pub solve_once : Once {E = Result WideEnding Refusal} says Held
+solve_once = once_lem
 
-step_back : (p : WideProgress) (x : Result WideStepped Refusal) → step_back_lem (step_says x) (left_by p x) ≡ x
-unfolding step_back_lem
-step_back p (Ok s) = refl
-step_back p (Err r) = ap Err (back-paper r)
+pub step_once : Once {E = Result WideStride Refusal} says Lent
+step_once = once_lem
 
-pub step_once : (o : Outcome WideStride Lent) (p : WideProgress) (a b : Result WideStepped Refusal) (h k : Held)
-    → after (step_says a) (lent (left_by p a) h) ≡ o → after (step_says b) (lent (left_by p b) k) ≡ o → (a ≡ b) × (h ≡ k)
-step_once o p a b h k e d =
-    let w : after (step_says a) (lent (left_by p a) h) ≡ after (step_says b) (lent (left_by p b) k) = e ∙ sym d in (
-      sym (step_back p a) ∙ ap (λ (u : Outcome WideStride Lent). step_back_lem u.says u.left.progress) w ∙ step_back p b,
-      ap (λ (u : Outcome WideStride Lent). u.left.held) w,
-    )
+-- and of Step on a record by value, of which a refusal leaves nothing to say
+module _ (p : WideProgress) where
+  stepped_back : Says WideStride → WideProgress → Result WideStepped Refusal
+  stepped_back (refuses l) n = Err (back l)
+  stepped_back (gives a) n = Ok (record { told = a; next = n })
+
+  back_stepped : (s : Result WideStepped Refusal) → stepped_back (step_says s) (left_by p s) ≡ s
+  unfolding stepped_back
+  back_stepped (Ok s) = refl
+  back_stepped (Err r) = ap Err (back-paper r)
+
+  pub stepped_once : (o : Outcome WideStride Lent) (a b : Result WideStepped Refusal) (h k : Held)
+      → after (step_says a) (lent (left_by p a) h) ≡ o → after (step_says b) (lent (left_by p b) k) ≡ o → (a ≡ b) × (h ≡ k)
+  stepped_once o a b h k e d =
+      let w : after (step_says a) (lent (left_by p a) h) ≡ after (step_says b) (lent (left_by p b) k) = e ∙ sym d in (
+        sym (back_stepped a) ∙ ap (λ (u : Outcome WideStride Lent). stepped_back u.says u.left.progress) w ∙ back_stepped b,
+        ap (λ (u : Outcome WideStride Lent). u.left.held) w,
+      )

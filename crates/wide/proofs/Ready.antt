@@ -10,12 +10,14 @@ use lib.Dec.{eqb}
 use lib.ListN.{length}
 use borrow.Author.Tests.{not-false, eq-eqb, ne_eqb}
 use Rattle.field.specs.Field.{field_of}
+use Rattle.sharing.specs.Bounds.{most_rows}
 use Rattle.sharing.specs.Rules.{sum, blinded_value}
 use Rattle.sharing.specs.Lists.{Below}
 use Rattle.table.specs.Layout.{Inside, entry}
 use Rattle.table.specs.Costs.{scale_nonzero}
 use Rattle.table.specs.Values.{value}
 use Rattle.table.proofs.Values.{pivot_zero, zero_pivot_lem}
+use Rattle.course.specs.declared.Step.{Step}
 use Rattle.course.specs.declared.Step.TheVariants.{Mix, Check, Scale, Clear, Open, Lift}
 use Rattle.course.specs.StepList.{cost_in}
 use Rattle.pattern.specs.declared.WideOrder.{WideOrder}
@@ -25,6 +27,7 @@ use Rattle.pattern.specs.declared.WideProgress.{WideProgress}
 use Rattle.pattern.specs.Pivots.{listed}
 use Rattle.pattern.specs.PatternList.{Sizes, cost_of, nonzero_cost, wanted}
 use Rattle.pattern.specs.Next.{kept, stands, placed, counted}
+use Rattle.pattern.proofs.Placed.{Places, placed_at}
 use Rattle.course.proofs.Within.{both}
 use Rattle.verdict.specs.Told.{passed, refuse, ◌or◌}
 use Rattle.verdict.specs.Refusals.{differs, no2, no3, no4, no5, no6, no9, no21, buffers, exactly}
@@ -95,9 +98,14 @@ unfolding wanted_order
 wanting p e = (sized p.order (left (sizes p.order) _ e), standing-says p (right (sizes p.order) _ e))
 
 -- the two tests of 10
-pub tests : (p : WideProgress) → placed p ≡ true → (kept p.order p.pivots ≡ true) × (stands p.order (listed p.pivots) p.place ≡ true)
+pub kept_and_stands : (p : WideProgress) → placed p ≡ true → (kept p.order p.pivots ≡ true) × (stands p.order (listed p.pivots) p.place ≡ true)
 unfolding placed
-tests p h = both (kept p.order p.pivots) (stands p.order (listed p.pivots) p.place) h
+kept_and_stands p h = both (kept p.order p.pivots) (stands p.order (listed p.pivots) p.place) h
+
+-- where the step of a record's place works
+pub works_at : (p : WideProgress) (s : Step) → Sizes p.order → length p.pivots.columns ≡ most_rows → placed p ≡ true → p.place ≡ At s
+    → Places p.order (listed p.pivots) s
+works_at p s z slots h at = let t = kept_and_stands p h in placed_at p.order z p.pivots slots t.0 s (rw at at t.1)
 
 -- 4, 5, 10, 19 and 11 passed
 pub record Placed (p : WideProgress) (table solution : ℕ) : Type 0 where

@@ -1,6 +1,7 @@
 // The wide calls (R-8): start, step, solve, the lengths that a solve wants, and the draws that a record's step wants. Stands on wide_walk.
 // Each takes any numbers, tables and tapes, does all its own checking, and promises by one equation its answer and every lent byte, refusals
 // included.
+// stays: solver's twin, since README names both crates' calls, and theorems R-8's definitions and 01's (specs/WideCalls.antt, solver's specs/Calls.antt).
 #![tactic(auto)]
 
 mod checks;
@@ -34,6 +35,7 @@ pub struct WideStepped {
 }
 
 // A fresh record, or refusal 1, 2, 3, 21.
+// stays: here, in counts and in solve four numbers and no WideOrder: README and the C interface (hz_wide_start, hz_wide_counts, hz_wide_solve) have them so.
 pub fn start(field: u64, shares: u64, rows: u64, columns: u64) -> Result<WideProgress, Refusal>
     ensures { after (says result) tt ≡ start_call (order field shares rows columns) }
 {
@@ -66,7 +68,7 @@ pub fn wanted(p: WideProgress) -> Result<Draws, Refusal>
     ensures { after (says result) tt ≡ wanted_call p }
 {
     checks::wanted(p)?;
-    Ok(checks::cost_at(p.order, p.pivots, p.place))
+    Ok(checks::cost_at(p))
 }
 
 // The whole solve. The first promise fixes the answer and every lent byte; the second says what the answer means, with its counters.

@@ -1,13 +1,9 @@
 -- `plain::eliminate` meets its contract. The loop's invariant: what is left to do from column j comes to what the whole does.
 -- Assumes nothing.
 use mathlib.Core.Path.{◌≡◌}
-use Prim.Native.Nat.{◌+◌, ◌-◌, ◌≤◌}
-use lib.ListN.{length}
+use Prim.Native.Nat.{◌+◌, ◌-◌}
 use Rattle.plain.specs.Elimination.{eliminate}
 use Rattle.plain.proofs.eliminate.Given as goal
 
 abbrev pub invariant-loop-j : goal.invariant-loop-j
-invariant-loop-j l = (1 ≤ l.j) × (l.j ≤ l.m + 1) × (length l.t ≡ length l.initial.t) × (eliminate l.f l.m (l.m + 1 - l.j) l.j l.t ≡ eliminate l.f l.m l.m 1 l.initial.t)
-
-abbrev pub decreases-loop-j : goal.decreases-loop-j
-decreases-loop-j l = l.m + 1 - l.j
+invariant-loop-j l = eliminate l.f l.m (l.m + 1 - l.j) l.j l.t ≡ eliminate l.f l.m l.m 1 l.initial.t

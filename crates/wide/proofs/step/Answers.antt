@@ -11,7 +11,7 @@ use Rattle.verdict.specs.Calls.{call}
 use Rattle.verdict.proofs.Calls.{passes_call}
 use Rattle.wide.specs.WideRefusals.{cost_at}
 use Rattle.wide.specs.WideCalls.{step_call}
-use Rattle.wide.proofs.Ready.{going, tests}
+use Rattle.wide.proofs.Ready.{going, kept_and_stands}
 use Rattle.wide.proofs.Calls.{step_done_lem, step_stays}
 use Rattle.wide.proofs.step.Goals as goal
 
@@ -29,7 +29,7 @@ pub act-x-requires : goal.act-x-requires
 unfolding cost_at
 act-x-requires c =
     let g = going _ _ _ _ _ (sym c.in_ok-step.ensures) in
-    let t = tests _ g.at.stood.listed in
+    let t = kept_and_stands _ g.at.stood.listed in
     let m = ap (λ p. (cost_at c.args.p.order p).mask) c.in-At.is in
     let k = ap (λ p. (cost_at c.args.p.order p).nonzero) c.in-At.is in
     record {

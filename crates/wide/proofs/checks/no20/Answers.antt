@@ -2,16 +2,13 @@
 -- Assumes nothing.
 use mathlib.Core.Path.{◌≡◌, ap, ◌∙◌}
 use native.Mathlib.Omega.{arith}
-use lib.ListN.{length}
-use Rattle.sharing.specs.Bounds.{most_rows}
+use Rattle.std.proofs.Common.{rules}
 use Rattle.course.specs.declared.Step.TheVariants.{Lift}
 use Rattle.pattern.specs.declared.WidePlace.TheVariants.{At}
-use Rattle.pattern.proofs.Placed.{placed_at}
 use Rattle.solver.specs.Refusals.{lift_refused}
 use Rattle.verdict.proofs.Verdicts.{tests}
 use Rattle.wide.specs.WideRefusals.{no20}
-use Rattle.wide.proofs.Ready.{no_lift}
-use borrow.Author.Rules.{rules}
+use Rattle.wide.proofs.Ready.{works_at, no_lift}
 use Rattle.wide.proofs.checks.no20.Goals as goal
 
 pub returns-in_default : goal.returns-in_default
@@ -28,16 +25,11 @@ returns-in_default-s c =
 -- the column of the Lift
 pub overflow_sub-x : goal.overflow_sub-x
 overflow_sub-x c =
-    let slots : length c.args.v.columns ≡ most_rows = search rules in
-    let at = c.in-At.is ∙ ap At c.in-Lift.is in
-    let w = placed_at c.args.o c.requires.sizes c.args.v slots c.requires.v_value.0 (Lift c.in-Lift.j) (rw at at c.requires.v_value.1) in
-    w.column_low
+    (works_at c.args.p _ c.requires.sizes (search rules) c.requires.p_value (c.in-At.is ∙ ap At c.in-Lift.is)).column_low
 
 pub bounds-solution-j : goal.bounds-solution-j
 bounds-solution-j c =
-    let slots : length c.args.v.columns ≡ most_rows = search rules in
-    let at = c.in-At.is ∙ ap At c.in-Lift.is in
-    let w = placed_at c.args.o c.requires.sizes c.args.v slots c.requires.v_value.0 (Lift c.in-Lift.j) (rw at at c.requires.v_value.1) in
+    let w = works_at c.args.p _ c.requires.sizes (search rules) c.requires.p_value (c.in-At.is ∙ ap At c.in-Lift.is) in
     omega (arith, c.requires.solution_len, w.column_low, w.column_high)
 
 pub returns : goal.returns

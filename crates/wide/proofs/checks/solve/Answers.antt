@@ -11,8 +11,18 @@ pub returns-in_err-sizes : goal.returns-in_err-sizes
 unfolding solve_order ◌or◌
 returns-in_err-sizes c = search rules
 
-pub solve_lent-requires : goal.solve_lent-requires
-solve_lent-requires c = sized _ (sym c.in_ok-sizes.ensures)
+pub table_rows-requires : goal.table_rows-requires
+table_rows-requires c = sized _ (sym c.in_ok-sizes.ensures)
+
+pub whole_table-requires : goal.whole_table-requires
+whole_table-requires c = sized _ (sym c.in_ok-sizes.ensures)
+
+pub returns-in_err-buffers : goal.returns-in_err-buffers
+unfolding solve_order ◌or◌
+returns-in_err-buffers c = search rules
+
+pub wanted-d-requires : goal.wanted-d-requires
+wanted-d-requires c = sized _ (sym c.in_ok-sizes.ensures)
 
 pub returns : goal.returns
 unfolding solve_order ◌or◌

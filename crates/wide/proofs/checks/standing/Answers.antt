@@ -10,9 +10,6 @@ pub returns-then-not-is_placed : goal.returns-then-not-is_placed
 unfolding standing no10 no19 no11 ◌or◌
 returns-then-not-is_placed c = rw (sym c.is_placed.ensures ∙ c.if-not-is_placed.true)
 
-pub is_counted-requires : goal.is_counted-requires
-is_counted-requires c = record { sizes = c.requires; p_value = sym c.is_placed.ensures ∙ c.if-not-is_placed.false }
-
 pub returns-then-not-is_counted : goal.returns-then-not-is_counted
 unfolding standing no10 no19 no11 ◌or◌
 returns-then-not-is_counted c =
