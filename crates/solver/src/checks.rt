@@ -11,6 +11,7 @@ ghost use Rattle.verdict.specs.Code.Verdicts.{told};
 ghost use Rattle.verdict.specs.Cells.{NonEmpty};
 
 use course::{Draws, Order, Place, Progress, Step};
+use table::Shape;
 use verdict::{Cell, Refusal, Rows};
 
 // 1 to 3
@@ -270,10 +271,15 @@ fn no12(o: Order, p: Place, table: &[u8], mask: &[u8], nonzero: &[u8]) -> Result
     let Place::At(Step::Scale(j)) = p else {
         return Ok(());
     };
-    let n = o.shares as usize;
     let m = o.size as usize;
     let c = j as usize;
-    let zero = table::opens_zero(o.field, n, m, m + 1, table, c, c, nonzero, mask);
+    let shape = Shape {
+        field: o.field,
+        shares: o.shares as usize,
+        rows: m,
+        columns: m + 1,
+    };
+    let zero = table::opens_zero(shape, table, c, c, nonzero, mask);
     verdict::refuse_if(
         zero,
         Refusal::ZeroPivot(Cell {

@@ -7,7 +7,7 @@ ghost use Rattle.field.specs.Field.{field_of};
 ghost use Rattle.sharing.specs.Run.{tab};
 ghost use Rattle.sharing.specs.Rules.{draw_at};
 ghost use Rattle.sharing.specs.Bounds.{most_entries};
-ghost use Rattle.table.specs.Layout.{Bounded, table_bytes};
+ghost use Rattle.table.specs.Layout.{Shaped, table_bytes};
 ghost use Rattle.table.specs.Steps.{column_turn};
 ghost use Rattle.course.specs.StepList.{Sizes, in_list, column_of, cost_in, mask_cost, nonzero_cost, full_mask, full_nonzero};
 ghost use Rattle.walk.specs.Act.{held, Row, OtherRow, step_opens, step_leaves, opened, acted};
@@ -15,6 +15,7 @@ ghost use Rattle.walk.specs.Walk.{leaves, solved};
 ghost use Rattle.walk.specs.Dealing.{dealt_entry, deal_turn, dealt, gathered};
 
 use course::{Counts, Order, Place, Progress, Step};
+use table::Shape;
 
 // How a solve ends, with the steps, mask draws and nonzero draws taken.
 #[derive(Clone, Copy)]
@@ -25,10 +26,7 @@ pub enum Ending {
 
 // Does one step where row r takes its column's pivot, on rows of w columns, and returns the number that it opened, 0 where it opens none.
 pub fn perform(
-    f: u64,
-    n: usize,
-    rows: usize,
-    w: usize,
+    shape: Shape,
     r: usize,
     s: Step,
     table: &mut [u8],
@@ -36,36 +34,36 @@ pub fn perform(
     mask: &[u8],
     nonzero: &[u8],
 ) -> u8
-    requires bounded { Bounded n rows w }
-    requires row { Row rows r × OtherRow rows s }
-    requires bound { (1 ≤ column_of s) × (column_of s + 1 ≤ w) × (column_of s ≤ length solution.old) }
-    requires table_len { length table.old ≡ table_bytes n rows w }
-    requires s_in_bounds { ((cost_in f n w s).mask ≤ length mask.now) × ((cost_in f n w s).nonzero ≤ length nonzero.now) }
-    ensures value { result ≡ step_opens f n w r s mask.now (held table.old solution.old) }
-    ensures solution_after { held table.new solution.new ≡ step_leaves f n w r s mask.now nonzero.now (held table.old solution.old) }
+    requires shaped { Shaped shape table.old }
+    requires row { Row shape.rows r × OtherRow shape.rows s }
+    requires bound { (1 ≤ column_of s) × (column_of s + 1 ≤ shape.columns) × (column_of s ≤ length solution.old) }
+    requires s_in_bounds { let cost = cost_in shape.field shape.shares shape.columns s in (cost.mask ≤ length mask.now) × (cost.nonzero ≤ length nonzero.now) }
+    ensures value { result ≡ step_opens shape.field shape.shares shape.columns r s mask.now (held table.old solution.old) }
+    ensures solution_after { held table.new solution.new
+        ≡ step_leaves shape.field shape.shares shape.columns r s mask.now nonzero.now (held table.old solution.old) }
 {
     match s {
         Step::Mix { j, k } => {
-            table::mix(f, n, rows, w, table, r, j as usize, k as usize, mask);
+            table::mix(shape, table, r, j as usize, k as usize, mask);
             0
         }
-        Step::Check(j) => table::check(f, n, rows, w, table, r, j as usize, mask),
+        Step::Check(j) => table::check(shape, table, r, j as usize, mask),
         Step::Scale(j) => {
-            table::scale(f, n, rows, w, table, r, j as usize, nonzero, mask);
+            table::scale(shape, table, r, j as usize, nonzero, mask);
             0
         }
         Step::Clear { j, k } => {
-            table::clear(f, n, rows, w, table, r, j as usize, k as usize, mask);
+            table::clear(shape, table, r, j as usize, k as usize, mask);
             0
         }
         Step::Open(j) => {
-            let x = table::open(f, n, rows, w, table, r, mask);
+            let x = table::open(shape, table, r, mask);
             solution[j as usize - 1] = x;
             x
         }
         Step::Lift(j) => {
             let c = j as usize;
-            table::lift(f, n, rows, w, table, r, c, solution[c - 1]);
+            table::lift(shape, table, r, c, solution[c - 1]);
             0
         }
     }
@@ -89,18 +87,13 @@ pub fn act(
 {
     let m = o.size as usize;
     let r = course::column_of(s) as usize;
-    perform(
-        o.field,
-        o.shares as usize,
-        m,
-        m + 1,
-        r,
-        s,
-        table,
-        solution,
-        mask,
-        nonzero,
-    )
+    let shape = Shape {
+        field: o.field,
+        shares: o.shares as usize,
+        rows: m,
+        columns: m + 1,
+    };
+    perform(shape, r, s, table, solution, mask, nonzero)
 }
 
 // The whole solve.

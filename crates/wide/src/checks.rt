@@ -12,6 +12,7 @@ ghost use Rattle.wide.specs.WideRefusals.{no1, sizes, whole_table, table_rows, s
 
 use course::{Draws, Step};
 use pattern::{WideOrder, WidePlace, WideProgress};
+use table::Shape;
 use verdict::{Cell, Refusal, Rows};
 
 #[tactic(auto, unfolding(crate::specs::WideRefusals::no1))]
@@ -149,17 +150,13 @@ fn no12(p: WideProgress, table: &[u8], mask: &[u8], nonzero: &[u8]) -> Result<()
     };
     let o = p.order;
     let r = pattern::row_of(p.pivots, s);
-    let zero = table::opens_zero(
-        o.field,
-        o.shares as usize,
-        o.rows as usize,
-        o.columns as usize + 1,
-        table,
-        r,
-        j as usize,
-        nonzero,
-        mask,
-    );
+    let shape = Shape {
+        field: o.field,
+        shares: o.shares as usize,
+        rows: o.rows as usize,
+        columns: o.columns as usize + 1,
+    };
+    let zero = table::opens_zero(shape, table, r, j as usize, nonzero, mask);
     verdict::refuse_if(
         zero,
         Refusal::ZeroPivot(Cell {

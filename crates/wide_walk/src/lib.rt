@@ -12,6 +12,7 @@ ghost use Rattle.wide_walk.specs.WideWalk.{opened, acted, leaves, solved};
 
 use course::{Counts, Step};
 use pattern::{Pivots, WideOrder, WidePlace, WideProgress};
+use table::Shape;
 
 // How a wide solve ends, with the steps, mask draws and nonzero draws taken.
 #[derive(Clone, Copy)]
@@ -38,18 +39,13 @@ pub fn act(
     ensures solution_after { held table.new solution.new ≡ acted o (listed v) s mask.now nonzero.now (held table.old solution.old) }
 {
     let r = pattern::row_of(v, s);
-    walk::perform(
-        o.field,
-        o.shares as usize,
-        o.rows as usize,
-        o.columns as usize + 1,
-        r,
-        s,
-        table,
-        solution,
-        mask,
-        nonzero,
-    )
+    let shape = Shape {
+        field: o.field,
+        shares: o.shares as usize,
+        rows: o.rows as usize,
+        columns: o.columns as usize + 1,
+    };
+    walk::perform(shape, r, s, table, solution, mask, nonzero)
 }
 
 // The whole solve: the unknowns of columns that are passed over, and on short all of them, are 0 from the start.

@@ -17,6 +17,8 @@ ghost use Rattle.word.specs.Rows.{words_of, bytes_of, PutBytes};
 ghost use Rattle.word_table.specs.Code.Scaling.{scale_bytes};
 ghost use Rattle.word_table.specs.Table.{row_words, table_of, LoadedRow, store_turn, Room, Told};
 
+use table::Shape;
+
 // The words of a row of w columns.
 fn row_words(n: usize, w: usize) -> usize
     requires { (n ≤ 4) × (w ≤ most_columns) }
@@ -285,7 +287,13 @@ fn scale_bytes(f: u64, n: usize, columns: usize, bytes: &mut [u8], nonzero: &[u8
     requires columns_in_bounds { (scale_cost n columns ≤ length mask.now) × (scale_nonzero n ≤ length nonzero.now) }
     ensures { bytes.new ≡ scale_bytes f n columns nonzero.now mask.now bytes.old }
 {
-    table::scale(f, n, 1, columns, bytes, 1, 1, nonzero, mask);
+    let shape = Shape {
+        field: f,
+        shares: n,
+        rows: 1,
+        columns,
+    };
+    table::scale(shape, bytes, 1, 1, nonzero, mask);
 }
 
 // And the last columns of a row of words, with room for their bytes.

@@ -9,7 +9,7 @@ use Rattle.table.specs.Steps.{lift_turn}
 use Rattle.table.proofs.lift.Given as goal
 
 abbrev pub invariant-loop-i : goal.invariant-loop-i
-invariant-loop-i l = (l.i-end ≡ l.r - 1) × (l.i ≤ l.i-end) × (length l.table ≡ length l.initial.table) × (l.table ≡ run (lift_turn (field_of l.f) l.n l.w l.j l.x) l.i l.initial.table)
+invariant-loop-i l = (l.i-end ≡ l.r - 1) × (l.i ≤ l.i-end) × (length l.table ≡ length l.initial.table) × (l.table ≡ run (lift_turn (field_of l.shape.field) l.shape.shares l.shape.columns l.j l.x) l.i l.initial.table)
 
 abbrev pub decreases-loop-i : goal.decreases-loop-i
 decreases-loop-i l = l.i-end - l.i

@@ -42,67 +42,67 @@ left f n w r j p d k nz ds t fs y h ep ed ek ef ey =
     (ap (λ (row : List ℕ). put_row n w r j row t) (scale_all-four (field_of f) n (columns_from w j) (factors (field_of f) nz ds (entry n w r j t)) (drop (inversion_draws n) ds) (row_from n w r j t) h))
 
 pub overflow_mul-len : goal.overflow_mul-len
-overflow_mul-len c = omega (arith, row_in c.args.n c.requires.inside, c.requires.table_len.0)
+overflow_mul-len c = omega (arith, row_in c.args.shape.shares c.requires.inside, c.requires.shaped.bytes)
 
 pub overflow_add-p : goal.overflow_add-p
 overflow_add-p c =
-    let pivot-within : c.cell-p.result + c.args.n ≤ length c.args.table.now =
-    omega (arith, c.cell-p.ensures, cell_in c.args.n c.requires.inside, c.requires.table_len.0) in
+    let pivot-within : c.cell-p.result + c.args.shape.shares ≤ length c.args.table.now =
+    omega (arith, c.cell-p.ensures, cell_in c.args.shape.shares c.requires.inside, c.requires.shaped.bytes) in
     omega (arith, pivot-within)
 
 pub slice_bounds-inversion-end : goal.slice_bounds-inversion-end
 slice_bounds-inversion-end c =
-    let pivot-within : c.cell-p.result + c.args.n ≤ length c.args.table.now =
-    omega (arith, c.cell-p.ensures, cell_in c.args.n c.requires.inside, c.requires.table_len.0) in
+    let pivot-within : c.cell-p.result + c.args.shape.shares ≤ length c.args.table.now =
+    omega (arith, c.cell-p.ensures, cell_in c.args.shape.shares c.requires.inside, c.requires.shaped.bytes) in
     omega (arith, pivot-within)
 
 pub inversion-factors-requires : goal.inversion-factors-requires
 unfolding scale_nonzero
 inversion-factors-requires c =
-    let room : inversion_draws c.args.n + c.args.n * (columns_from c.args.w c.args.j * (c.args.n - 1)) ≤ length c.args.mask.now =
-    omega (arith, scale_cost_is c.args.n (columns_from c.args.w c.args.j), c.requires.table_len.1) in
-    rw (part-lent, c.cell-p.ensures, entry_length _ _ _ _ c.requires.table_len.0 c.requires.inside)
+    let room : inversion_draws c.args.shape.shares + c.args.shape.shares * (columns_from c.args.shape.columns c.args.j * (c.args.shape.shares - 1)) ≤ length c.args.mask.now =
+    omega (arith, scale_cost_is c.args.shape.shares (columns_from c.args.shape.columns c.args.j), c.requires.draws) in
+    rw (part-lent, c.cell-p.ensures, entry_length _ _ _ _ c.requires.shaped.bytes c.requires.inside)
     (omega (arith, room))
 
 pub overflow_add-p-2 : goal.overflow_add-p-2
 overflow_add-p-2 c =
-    let row_within : c.cell-p.result + columns_from c.args.w c.args.j * c.args.n ≤ length c.args.table.now =
-    omega (arith, c.cell-p.ensures, row_in c.args.n c.requires.inside, c.requires.table_len.0) in
+    let row_within : c.cell-p.result + columns_from c.args.shape.columns c.args.j * c.args.shape.shares ≤ length c.args.table.now =
+    omega (arith, c.cell-p.ensures, row_in c.args.shape.shares c.requires.inside, c.requires.shaped.bytes) in
     omega (arith, row_within)
 
 pub slice_bounds-scale_all-end : goal.slice_bounds-scale_all-end
 slice_bounds-scale_all-end c =
-    let row_within : c.cell-p.result + columns_from c.args.w c.args.j * c.args.n ≤ length c.args.table.now =
-    omega (arith, c.cell-p.ensures, row_in c.args.n c.requires.inside, c.requires.table_len.0) in
+    let row_within : c.cell-p.result + columns_from c.args.shape.columns c.args.j * c.args.shape.shares ≤ length c.args.table.now =
+    omega (arith, c.cell-p.ensures, row_in c.args.shape.shares c.requires.inside, c.requires.shaped.bytes) in
     omega (arith, row_within)
 
 pub slice_bounds-scale_all-count-2 : goal.slice_bounds-scale_all-count-2
 slice_bounds-scale_all-count-2 c =
-    let room : inversion_draws c.args.n + c.args.n * (columns_from c.args.w c.args.j * (c.args.n - 1)) ≤ length c.args.mask.now =
-    omega (arith, scale_cost_is c.args.n (columns_from c.args.w c.args.j), c.requires.table_len.1) in
+    let room : inversion_draws c.args.shape.shares + c.args.shape.shares * (columns_from c.args.shape.columns c.args.j * (c.args.shape.shares - 1)) ≤ length c.args.mask.now =
+    omega (arith, scale_cost_is c.args.shape.shares (columns_from c.args.shape.columns c.args.j), c.requires.draws) in
     omega (arith, c.inversion_draws-d.ensures.0, room)
 
 pub slice_bounds-scale_all-start-2 : goal.slice_bounds-scale_all-start-2
 slice_bounds-scale_all-start-2 c =
-    let room : inversion_draws c.args.n + c.args.n * (columns_from c.args.w c.args.j * (c.args.n - 1)) ≤ length c.args.mask.now =
-    omega (arith, scale_cost_is c.args.n (columns_from c.args.w c.args.j), c.requires.table_len.1) in
+    let room : inversion_draws c.args.shape.shares + c.args.shape.shares * (columns_from c.args.shape.columns c.args.j * (c.args.shape.shares - 1)) ≤ length c.args.mask.now =
+    omega (arith, scale_cost_is c.args.shape.shares (columns_from c.args.shape.columns c.args.j), c.requires.draws) in
     omega (arith, c.inversion_draws-d.ensures.0, room)
 
 pub scale_all-requires : goal.scale_all-requires
 scale_all-requires c =
-    let room : inversion_draws c.args.n + c.args.n * (columns_from c.args.w c.args.j * (c.args.n - 1)) ≤ length c.args.mask.now =
-    omega (arith, scale_cost_is c.args.n (columns_from c.args.w c.args.j), c.requires.table_len.1) in
-    let found : (c.inversion-factors.result.n ≡ c.args.n) × (c.inversion-factors.result.f ≡ four_of (factors (field_of c.args.f) c.args.nonzero.now c.args.mask.now (entry c.args.n c.args.w c.args.r c.args.j c.args.table.now))) =
-    rw (part-lent, c.cell-p.ensures, entry_length _ _ _ _ c.requires.table_len.0 c.requires.inside) at c.inversion-factors.ensures in
+    let room : inversion_draws c.args.shape.shares + c.args.shape.shares * (columns_from c.args.shape.columns c.args.j * (c.args.shape.shares - 1)) ≤ length c.args.mask.now =
+    omega (arith, scale_cost_is c.args.shape.shares (columns_from c.args.shape.columns c.args.j), c.requires.draws) in
+    let found : (c.inversion-factors.result.n ≡ c.args.shape.shares) × (c.inversion-factors.result.f ≡ four_of (factors (field_of c.args.shape.field) c.args.nonzero.now c.args.mask.now (entry c.args.shape.shares c.args.shape.columns c.args.r c.args.j c.args.table.now))) =
+    rw (part-lent, c.cell-p.ensures, entry_length _ _ _ _ c.requires.shaped.bytes c.requires.inside) at c.inversion-factors.ensures in
     let x = c.args in
-    let a = asked x.n x.rows x.w x.r x.j c.cell-p.result _ _ x.mask.now x.table.now
-    c.requires.bounded c.requires.inside c.requires.table_len.0 c.cell-p.ensures c.inversion_draws-d.ensures.0 found.0 room in
+    let a = asked x.shape.shares x.shape.rows x.shape.columns x.r x.j c.cell-p.result _ _ x.mask.now x.table.now
+    c.requires.shaped.bounded c.requires.inside c.requires.shaped.bytes c.cell-p.ensures c.inversion_draws-d.ensures.0 found.0 room in
     record { le_n = a.0; row_len = a.1 }
 
 pub returns : goal.returns
 returns c =
-    let found : (c.inversion-factors.result.n ≡ c.args.n) × (c.inversion-factors.result.f ≡ four_of (factors (field_of c.args.f) c.args.nonzero.now c.args.mask.now (entry c.args.n c.args.w c.args.r c.args.j c.args.table.now))) =
-    rw (part-lent, c.cell-p.ensures, entry_length _ _ _ _ c.requires.table_len.0 c.requires.inside) at c.inversion-factors.ensures in
+    let found : (c.inversion-factors.result.n ≡ c.args.shape.shares) × (c.inversion-factors.result.f ≡ four_of (factors (field_of c.args.shape.field) c.args.nonzero.now c.args.mask.now (entry c.args.shape.shares c.args.shape.columns c.args.r c.args.j c.args.table.now))) =
+    rw (part-lent, c.cell-p.ensures, entry_length _ _ _ _ c.requires.shaped.bytes c.requires.inside) at c.inversion-factors.ensures in
     let x = c.args in
-    left x.f x.n x.w x.r x.j c.cell-p.result _ _ x.nonzero.now x.mask.now x.table.now _ _
-    c.requires.bounded.fits.shares_high c.cell-p.ensures c.inversion_draws-d.ensures.0 found.0 found.1 c.scale_all.ensures
+    left x.shape.field x.shape.shares x.shape.columns x.r x.j c.cell-p.result _ _ x.nonzero.now x.mask.now x.table.now _ _
+    c.requires.shaped.bounded.fits.shares_high c.cell-p.ensures c.inversion_draws-d.ensures.0 found.0 found.1 c.scale_all.ensures

@@ -13,7 +13,7 @@ mix-requires c =
     let row = rw e at c.requires.row in
     let column = rw e at c.requires.bound in
     let draws = rw e at c.requires.s_in_bounds in
-    record { bounded = c.requires.bounded; inside = (inside row.0 column.0 (omega (arith, column.1)), inside row.1 column.0 (omega (arith, column.1))); table_len = (c.requires.table_len, draws.0) }
+    record { shaped = c.requires.shaped; inside = (inside row.0 column.0 (omega (arith, column.1)), inside row.1 column.0 (omega (arith, column.1))); draws = draws.0 }
 
 pub check-requires : goal.check-requires
 unfolding cost_in
@@ -22,7 +22,7 @@ check-requires c =
     let row = rw e at c.requires.row in
     let column = rw e at c.requires.bound in
     let draws = rw e at c.requires.s_in_bounds in
-    record { bounded = c.requires.bounded; inside = inside row.0 column.0 (omega (arith, column.1)); table_len = (c.requires.table_len, draws.0) }
+    record { shaped = c.requires.shaped; inside = inside row.0 column.0 (omega (arith, column.1)); draws = draws.0 }
 
 pub scale-requires : goal.scale-requires
 unfolding cost_in
@@ -31,7 +31,7 @@ scale-requires c =
     let row = rw e at c.requires.row in
     let column = rw e at c.requires.bound in
     let draws = rw e at c.requires.s_in_bounds in
-    record { bounded = c.requires.bounded; inside = inside row.0 column.0 (omega (arith, column.1)); table_len = (c.requires.table_len, draws.0, draws.1) }
+    record { shaped = c.requires.shaped; inside = inside row.0 column.0 (omega (arith, column.1)); draws = (draws.0, draws.1) }
 
 pub clear-requires : goal.clear-requires
 unfolding cost_in
@@ -40,7 +40,7 @@ clear-requires c =
     let row = rw e at c.requires.row in
     let column = rw e at c.requires.bound in
     let draws = rw e at c.requires.s_in_bounds in
-    record { bounded = c.requires.bounded; inside = (inside row.0 column.0 (omega (arith, column.1)), inside row.1 column.0 (omega (arith, column.1))); table_len = (c.requires.table_len, draws.0) }
+    record { shaped = c.requires.shaped; inside = (inside row.0 column.0 (omega (arith, column.1)), inside row.1 column.0 (omega (arith, column.1))); draws = draws.0 }
 
 pub open-x-requires : goal.open-x-requires
 unfolding cost_in
@@ -49,14 +49,17 @@ open-x-requires c =
     let row = rw e at c.requires.row in
     let column = rw e at c.requires.bound in
     let draws = rw e at c.requires.s_in_bounds in
-    record { bounded = c.requires.bounded; inside = inside row.0 (omega (arith, column.1)) (omega arith); table_len = (c.requires.table_len, draws.0) }
+    record { shaped = c.requires.shaped; inside = inside row.0 (omega (arith, column.1)) (omega arith); draws = draws.0 }
 
 pub lift-requires : goal.lift-requires
 lift-requires c =
     let e = c.in-Lift.is in
     let row = rw e at c.requires.row in
     let column = rw e at c.requires.bound in
-    record { fits = c.requires.bounded.fits; inside = inside row.0 column.0 (omega (arith, column.1)); table_len = c.requires.table_len }
+    record {
+      laid = record { fits = c.requires.shaped.bounded.fits; bytes = c.requires.shaped.bytes };
+      inside = inside row.0 column.0 (omega (arith, column.1));
+    }
 
 pub overflow_sub-solution : goal.overflow_sub-solution
 overflow_sub-solution c =

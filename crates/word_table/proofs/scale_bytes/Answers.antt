@@ -13,9 +13,12 @@ scale-requires c =
     let q = c.requires.le_n in
     let l : c.args.columns + 1 - 1 ≡ c.args.columns = omega arith in
     record {
-      bounded = record { shares_low = q.0; fits = record { shares_high = q.1; rows_high = omega arith; width_high = q.3 } };
+      shaped = record {
+        bounded = record { shares_low = q.0; fits = record { shares_high = q.1; rows_high = omega arith; width_high = q.3 } };
+        bytes = q.4 ∙ omega arith;
+      };
       inside = record { row_low = omega arith; row_high = omega arith; column_low = omega arith; column_high = q.2 };
-      table_len = (q.4 ∙ omega arith, rw l c.requires.columns_in_bounds.0, c.requires.columns_in_bounds.1);
+      draws = (rw l c.requires.columns_in_bounds.0, c.requires.columns_in_bounds.1);
     }
 
 pub returns : goal.returns

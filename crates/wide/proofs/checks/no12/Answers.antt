@@ -42,12 +42,15 @@ opens_zero-zero-requires c =
     let w = works_at c.args.p _ z (search rules) c.requires.p_value at in
     let long = rw at at c.requires.p_in_bounds in
     record {
-      bounded = record {
-        shares_low = z.two;
-        fits = record { shares_high = z.four; rows_high = z.most; width_high = omega (arith, z.widest) };
+      shaped = record {
+        bounded = record {
+          shares_low = z.two;
+          fits = record { shares_high = z.four; rows_high = z.most; width_high = omega (arith, z.widest) };
+        };
+        bytes = c.requires.table_len;
       };
       inside = rw c.row_of-r.ensures (inside (w.row_low, w.row_high) w.column_low (omega (arith, w.column_high)));
-      table_len = (c.requires.table_len, long.0, long.1);
+      draws = (long.0, long.1);
     }
 
 pub returns : goal.returns
