@@ -120,10 +120,7 @@ fn no20(p: WideProgress, solution: &[u8]) -> Result<(), Refusal>
     requires solution_len { length solution.now ≡ p.order.columns }
     ensures { told result ≡ no20 p.order p.place solution.now }
 {
-    let WidePlace::At(s) = p.place else {
-        return Ok(());
-    };
-    let Step::Lift(j) = s else {
+    let WidePlace::At(Step::Lift(j)) = p.place else {
         return Ok(());
     };
     let x = solution[j as usize - 1];
@@ -142,14 +139,11 @@ fn no12(p: WideProgress, table: &[u8], mask: &[u8], nonzero: &[u8]) -> Result<()
     requires nonzero_value { no9 p.order.field nonzero.now ≡ passed }
     ensures { told result ≡ no12 p.order (listed p.pivots) p.place table.now }
 {
-    let WidePlace::At(s) = p.place else {
-        return Ok(());
-    };
-    let Step::Scale(j) = s else {
+    let WidePlace::At(Step::Scale(j)) = p.place else {
         return Ok(());
     };
     let o = p.order;
-    let r = pattern::row_of(p.pivots, s);
+    let r = pattern::row_of(p.pivots, Step::Scale(j));
     let shape = Shape {
         field: o.field,
         shares: o.shares as usize,

@@ -99,15 +99,11 @@ pub fn solve(
 fn answer(s: Step, x: u8, next: WidePlace) -> WideStride
     ensures { result ≡ tells (revealed_by s) x next }
 {
-    match s {
-        Step::Open(j) => match next {
-            WidePlace::Done => WideStride::Done(j, x),
-            _ => WideStride::Opened(j, x),
-        },
-        _ => match next {
-            WidePlace::Short => WideStride::Short,
-            _ => WideStride::Moved,
-        },
+    match (s, next) {
+        (Step::Open(j), WidePlace::Done) => WideStride::Done(j, x),
+        (Step::Open(j), _) => WideStride::Opened(j, x),
+        (_, WidePlace::Short) => WideStride::Short,
+        _ => WideStride::Moved,
     }
 }
 

@@ -37,7 +37,7 @@ copy_from_slice-requires c = length-take-le _ _ (few (admitted _ _ _ _ (sym c.in
 pub work-requires : goal.work-requires
 work-requires c =
     let a = admitted _ _ _ _ (sym c.in_ok-check.ensures) in
-    rw c.copy_from_slice.ensures.after (a.most, one_byte c.args.size c.args.values.now a.entries, a.room)
+    rw c.copy_from_slice.ensures.after ((a.most, one_byte c.args.size c.args.values.now a.entries), a.room)
 
 pub returns-clause-outcome : goal.returns-clause-outcome
 unfolding plain_call call

@@ -1,11 +1,10 @@
 -- `wide::solve` meets its contract: a pass gives the work what it asks for, and what meets the equation has its meaning.
 -- Assumes nothing.
-use mathlib.Core.Path.{◌≡◌, sym, ap, ◌∙◌}
+use mathlib.Core.Path.{◌≡◌, sym}
 use Rattle.std.proofs.Common.{rules}
 use Rattle.walk.specs.Act.{held}
 use Rattle.verdict.specs.Calls.{gives, after, call}
-use Rattle.verdict.proofs.Calls.{passes_call}
-use Rattle.wide.specs.WideCalls.{order, solve_does, solve_call}
+use Rattle.wide.specs.WideCalls.{order, solve_call}
 use Rattle.wide.proofs.Ready.{solvable}
 use Rattle.wide.proofs.Meaning.{means}
 use Rattle.wide.proofs.solve.Goals as goal
@@ -21,11 +20,10 @@ solve-requires-2 c =
 
 -- the equation and its meaning
 pub returns : goal.returns
-unfolding solve_call
+unfolding solve_call call
 returns c =
     let a = c.args in
     let o = order a.field a.shares a.rows a.columns in
     let h = held c.solve-2.new.table c.solve-2.new.solution in
-    let e : after (gives c.solve-2.result) h ≡ solve_call o (held a.table.now a.solution.now) a.mask.now a.nonzero.now =
-    ap solve_does c.solve-2.ensures ∙ passes_call _ _ _ _ _ c.solve.ensures c.in_ok-solve.was in
+    let e : after (gives c.solve-2.result) h ≡ solve_call o (held a.table.now a.solution.now) a.mask.now a.nonzero.now = search rules in
     record { outcome = e; meaning = means o a.table.now a.solution.now a.mask.now a.nonzero.now _ h e }

@@ -1,6 +1,6 @@
 -- `wide::step` meets its contract: a pass gives the work of the place's step what it asks for, and a place that is no step is left as it is.
 -- Assumes nothing.
-use mathlib.Core.Path.{sym, ap, ◌≡◌, ◌∙◌}
+use mathlib.Core.Path.{◌≡◌, sym, ap}
 use native.Mathlib.Omega.{arith}
 use lib.ListN.{length}
 use Rattle.std.proofs.Common.{rules}
@@ -8,11 +8,9 @@ use Rattle.sharing.specs.Bounds.{most_rows}
 use Rattle.pattern.proofs.Counting.{wanted_few}
 use Rattle.pattern.proofs.Moving.{standing-says, room_at}
 use Rattle.verdict.specs.Calls.{call}
-use Rattle.verdict.proofs.Calls.{passes_call}
 use Rattle.wide.specs.WideRefusals.{cost_at}
-use Rattle.wide.specs.WideCalls.{step_call}
+use Rattle.wide.specs.WideCalls.{step_does, step_call}
 use Rattle.wide.proofs.Ready.{going, kept_and_stands}
-use Rattle.wide.proofs.Calls.{step_done_lem, step_stays}
 use Rattle.wide.proofs.step.Goals as goal
 
 pub returns-in_err-step : goal.returns-in_err-step
@@ -20,10 +18,8 @@ unfolding step_call call
 returns-in_err-step c = search rules
 
 pub returns-in_default : goal.returns-in_default
-unfolding step_call
-returns-in_default c =
-    step_stays _ _ _ _ _ c.in_default.not-At
-    ∙ passes_call _ _ _ _ _ c.step.ensures c.in_ok-step.was
+unfolding step_call step_does call
+returns-in_default c = search rules
 
 pub act-x-requires : goal.act-x-requires
 unfolding cost_at
@@ -53,7 +49,5 @@ next-next-requires c =
     }
 
 pub returns : goal.returns
-unfolding step_call
-returns c =
-    step_done_lem _ _ _ _ _ _ _ _ _ _ c.in-At.is c.act-x.ensures.value c.act-x.ensures.solution_after c.next-next.ensures c.answer.ensures
-    ∙ passes_call _ _ _ _ _ c.step.ensures c.in_ok-step.was
+unfolding step_call step_does call
+returns c = search rules

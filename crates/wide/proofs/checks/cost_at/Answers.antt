@@ -1,6 +1,5 @@
 -- `checks::cost_at` meets its contract, place by place.
 -- Assumes nothing.
-use mathlib.Core.Logic.{inl, inr}
 use Rattle.std.proofs.Common.{rules}
 use Rattle.wide.specs.WideRefusals.{cost_at}
 use Rattle.wide.proofs.Ready.{works_at}
@@ -12,8 +11,8 @@ cost-requires-clause-bound c =
 
 pub returns-in-At : goal.returns-in-At
 unfolding cost_at
-returns-in-At c = rw c.in-At.is c.cost.ensures
+returns-in-At c = search rules
 
 pub returns-in-Short : goal.returns-in-Short
 unfolding cost_at
-returns-in-Short c = elim c.in-Short.is [ inl e ↦ rw e | inr e ↦ rw e ]
+returns-in-Short c = search rules

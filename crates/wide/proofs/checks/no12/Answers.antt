@@ -14,19 +14,16 @@ use Rattle.pattern.specs.PatternList.{cost_of}
 use Rattle.pattern.proofs.Standing.{kept-says}
 use Rattle.verdict.proofs.Verdicts.{tests}
 use Rattle.wide.specs.WideRefusals.{cost_at, scale_refused, no12}
-use Rattle.wide.proofs.Ready.{kept_and_stands, works_at, no_pivot, pivot_told}
+use Rattle.wide.proofs.Ready.{kept_and_stands, works_at, pivot_told}
 use Rattle.wide.proofs.checks.no12.Goals as goal
 
 pub returns-in_default : goal.returns-in_default
-returns-in_default c = no_pivot _ _ _ _ (λ j e. c.in_default.not-At (Scale j) e)
+unfolding no12 scale_refused
+returns-in_default c = search rules
 
-pub returns-in_default-s : goal.returns-in_default-s
-returns-in_default-s c =
-    no_pivot _ _ _ _
-    (λ j e.
-    let at = c.in-At.is in
-    let same : c.in-At.s ≡ Scale j = cc in
-    c.in_default-s.not-Scale j same)
+pub returns-in_default-2 : goal.returns-in_default-2
+unfolding no12 scale_refused
+returns-in_default-2 c = search rules
 
 pub row_of-r-requires : goal.row_of-r-requires
 row_of-r-requires c =
@@ -38,7 +35,7 @@ pub opens_zero-zero-requires : goal.opens_zero-zero-requires
 unfolding cost_at cost_of cost_in
 opens_zero-zero-requires c =
     let z = c.requires.sizes in
-    let at : c.args.p.place ≡ At (Scale c.in-Scale.j) = c.in-At.is ∙ ap At c.in-Scale.is in
+    let at : c.args.p.place ≡ At (Scale c.in-At-Scale.j) = c.in-At-Scale.is ∙ ap At (rw c.in-At-Scale.is at c.in-At-Scale.field-0-is) in
     let w = works_at c.args.p _ z (search rules) c.requires.p_value at in
     let long = rw at at c.requires.p_in_bounds in
     record {
@@ -57,8 +54,8 @@ pub returns : goal.returns
 unfolding no12 scale_refused cost_at
 returns c =
     let o = c.args.p.order in
-    let j = c.in-Scale.j in
-    let at : c.args.p.place ≡ At (Scale j) = c.in-At.is ∙ ap At c.in-Scale.is in
+    let j = c.in-At-Scale.j in
+    let at : c.args.p.place ≡ At (Scale j) = c.in-At-Scale.is ∙ ap At (rw c.in-At-Scale.is at c.in-At-Scale.field-0-is) in
     let w = works_at c.args.p _ c.requires.sizes (search rules) c.requires.p_value at in
     let row = c.row_of-r.ensures in
     let pivot : Inside o.rows (o.columns + 1) c.row_of-r.result j =

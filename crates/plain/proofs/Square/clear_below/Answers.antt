@@ -1,11 +1,11 @@
--- `plain::clear_below` meets its contract. The loop's invariant: the table is a run of the rows so far.
+-- `clear_below` meets its contract. The loop's invariant: the table is a run of the rows so far.
 -- Assumes nothing.
 use mathlib.Core.Path.{◌≡◌}
 use Prim.Native.Nat.{◌+◌, ◌-◌}
 use native.Mathlib.Omega.{arith}
 use Rattle.sharing.proofs.Loops.{run_none, run-next, run_done}
 use Rattle.plain.specs.Elimination.{clear_below}
-use Rattle.plain.proofs.clear_below.Goals as goal
+use Rattle.plain.proofs.Square.clear_below.Goals as goal
 
 pub loop-k-init : goal.loop-k-init
 loop-k-init c = let j = c.args.j in

@@ -1,7 +1,7 @@
--- `plain::column` meets its contract: exchange, scale and clear, one after the other.
+-- `column` meets its contract: exchange, scale and clear, one after the other.
 -- Assumes nothing.
 use Rattle.plain.specs.Elimination.{column}
-use Rattle.plain.proofs.column.Goals as goal
+use Rattle.plain.proofs.Square.column.Goals as goal
 
 pub returns : goal.returns
 unfolding column
