@@ -3,14 +3,19 @@
 use mathlib.Core.Bool.{Bool, true, false}
 use mathlib.Core.Logic.{◌⊎◌, ⊎_elim}
 use mathlib.Core.List.{List}
-use mathlib.Core.Path.{◌≡◌}
+use mathlib.Core.Path.{◌≡◌, refl}
 use Prim.Native.Nat.{ℕ}
 use borrow.Author.Tests.{eq-eqb, ne_eqb}
+use Rattle.std.specs.Prelude.{Result, Ok, Err}
 use Rattle.walk.specs.Act.{Held}
+use Rattle.verdict.specs.declared.Refusal.{Refusal}
+use Rattle.verdict.specs.Code.Verdicts.{says}
+use Rattle.plain.specs.declared.Ending.{Ending}
+use Rattle.plain.specs.Calls.{answer, plain_says}
 use Rattle.verdict.specs.Told.{Line}
 use Rattle.verdict.specs.Calls.{Says, refuses, gives, Outcome, after, Nothing}
 use Rattle.host.specs.declared.replies.Reply.{Reply}
-use Rattle.host.specs.Replies.{refusal_reply, four_of, said, fresh_reply}
+use Rattle.host.specs.Replies.{refusal_reply, four_of, said, fresh_reply, plain_reply}
 use Rattle.host.specs.Faces.{Back, back, handed, worded, words_right, start_handed, recorded, step_handed}
 
 module _ {L : Type 0} where
@@ -55,10 +60,15 @@ module _ (code : ℕ) (answer : List ℕ) (r : Reply) (so : Said code answer r) 
   module _ {A L : Type 0} (f : A → Reply) (words : L → List ℕ) (lent_to : L → Held) (w : List ℕ) (o : Outcome A L) (left : L) where
     pub hands_step : (v : List ℕ) (a : A) → after (gives a) left ≡ o → r ≡ f a → v ≡ words left
         → back code (recorded v (lent_to left)) answer ≡ step_handed f words lent_to w o
-    unfolding step_handed said
+    unfolding step_handed
     hands_step v a e g k = rw (so.0, so.1, k, g, ← e)
 
     pub hands_no_step : (l : Line) → after (refuses l) left ≡ o → r ≡ refusal_reply l
         → back code (recorded w (lent_to left)) answer ≡ step_handed f words lent_to w o
-    unfolding step_handed said
+    unfolding step_handed
     hands_no_step l e g = rw (so.0, so.1, g, ← e)
+
+-- what the plain solve came to, as the code says it and as the definition does
+pub plain_said : (x : Result Ending Refusal) → said (λ e. plain_reply (answer e)) (says x) ≡ said plain_reply (plain_says x)
+plain_said (Ok e) = refl
+plain_said (Err r) = refl

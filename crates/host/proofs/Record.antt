@@ -1,11 +1,8 @@
 -- A record written and read again; words that name no place.
 -- Assumes nothing.
-use mathlib.Core.List.{List, [], ◌∷◌}
+use mathlib.Core.List.{[], ◌∷◌}
 use mathlib.Core.Path.{◌≡◌, refl, ap}
 use Prim.Native.Nat.{ℕ}
-use native.Mathlib.Omega.{arith}
-use borrow.Author.Tests.{eq-eqb, ne_eqb}
-use lib.ListN.{length, set}
 use Rattle.course.specs.declared.Place.{Place}
 use Rattle.course.specs.declared.Place.TheVariants.{At, Stopped, Done}
 use Rattle.course.specs.declared.Progress.{Progress}

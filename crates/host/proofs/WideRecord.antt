@@ -8,7 +8,7 @@ use Prim.Native.Nat.{ℕ, zero, suc, ◌+◌, ◌-◌, ◌≤◌, ◌<◌}
 use native.Mathlib.Omega.{arith}
 use borrow.Author.Tests.{eq-eqb, ne_eqb, le-leb, lt-leb, eqb-true, ltb-true, ltb-false}
 use lib.Dec.{eqb, leb, ltb}
-use lib.ListN.{length, get_or, set, take, drop, length-append, length-drop, length-map, drop_of_length-le, get_or-map}
+use lib.ListN.{length, get_or, take, drop, length-append, length-drop, length-map, drop_of_length-le, get_or-map}
 use lib.Seq.{take_at, drop_at, get_or-take, get_or-drop, length-take-le}
 use Rattle.sharing.specs.Run.{tab}
 use Rattle.sharing.proofs.Loops.{rest}

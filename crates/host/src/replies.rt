@@ -2,7 +2,7 @@
 ghost use Rattle.std.specs.Prelude.{◌≡◌, length};
 ghost use Rattle.verdict.specs.Refusals.{paper};
 ghost use Rattle.verdict.specs.Code.Verdicts.{says};
-ghost use Rattle.plain.specs.Calls.{answer_of};
+ghost use Rattle.plain.specs.Calls.{answer};
 ghost use Rattle.host.specs.declared.replies.Reply.{Reply};
 ghost use Rattle.host.specs.Replies.{reply, refusal_reply, said, counts_reply, full_reply, ending_reply, stride_reply, wanted_reply, plain_reply, system_reply, fresh_reply, wide_stride_reply, wide_ending_reply, four_of};
 
@@ -145,7 +145,7 @@ impl Answer for WideEnding {
 }
 
 impl Answer for plain::Ending {
-    ghost reply_of = { plain_reply };
+    ghost reply_of = { λ e. plain_reply (answer e) };
 
     fn reply(self) -> Reply {
         match self {

@@ -153,8 +153,9 @@ fn read_slots(slots: &[u64]) -> [u8; 96]
     ensures { result ≡ bytes_of slots.now }
 {
     let mut columns = [0u8; 96];
-    for (column, slot) in columns.iter_mut().zip(slots) {
-        *column = byte_of(*slot);
+    // stays: a loop over both lists at once has no name in its invariant for the one that is written, so that proof didn't close.
+    for i in 0..96 {
+        columns[i] = byte_of(slots[i]);
     }
     columns
 }
@@ -163,8 +164,8 @@ fn write_slots(slots: &mut [u64], columns: &[u8])
     requires { length slots.old ≡ length columns.now }
     ensures { slots.new ≡ columns.now }
 {
-    for (slot, column) in slots.iter_mut().zip(columns) {
-        *slot = u64::from(*column);
+    for (i, slot) in slots.iter_mut().enumerate() {
+        *slot = u64::from(columns[i]);
     }
 }
 
