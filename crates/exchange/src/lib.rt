@@ -105,6 +105,7 @@ pub fn write(
 // ---- one record at the front of the input, whatever follows it
 
 // The number that two bytes are, high byte first.
+#[tactic(auto, unfolding(crate::specs::Record::number_at))]
 fn number_at(input: &[u8], at: usize) -> u16
     requires { (at ≤ 65552) × (at + 2 ≤ length input.now) }
     ensures { result ≡ number_at input.now at }

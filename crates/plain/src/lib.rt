@@ -26,6 +26,7 @@ pub enum Ending {
 }
 
 // A square system of values: its field, and its equations. Its table has that many rows, a column more, and one byte an entry.
+// stays: (d) the table is lent beside it; where a Square held it, each step would have to promise that the field and the size are as before
 #[derive(Clone, Copy, Debug, PartialEq, Eq)]
 struct Square {
     field: u64,
@@ -67,6 +68,7 @@ impl Square {
     }
 
     // A copy of row r from column j on, at the front of an array that has room for any row.
+    // stays: (a) fixed memory: of an array, with no heap, the caller takes the row's part
     fn row_from(self, t: &[u8], r: usize, j: usize) -> [u8; sharing::MOST_WIDTH]
         requires { Stands self t.now × Inside self.size self.size r j }
         ensures { take (self.size + 2 - j) result ≡ row_from 1 (self.size + 1) r j t.now }
@@ -87,6 +89,7 @@ impl Square {
     }
 
     // Rows a and b change places, from column j on.
+    // stays: (d) two copies: split_at_mut and swap_with_slice would want a and b in order, and apart from a = b
     fn exchange(self, t: &mut [u8], a: usize, b: usize, j: usize)
         requires { Stands self t.old × Inside self.size self.size a j × Inside self.size self.size b j }
         ensures { t.new ≡ exchange (self.size + 1) a b j t.old }
@@ -134,6 +137,7 @@ impl Square {
     }
 
     // Column j, whose pivot was found in row k.
+    #[tactic(auto, unfolding(crate::specs::Elimination::column))]
     fn column(self, t: &mut [u8], j: usize, k: usize)
         requires { Stands self t.old × Inside self.size self.size j j × Inside self.size self.size k j }
         ensures { t.new ≡ column self.field self.size j k t.old }

@@ -181,7 +181,8 @@ fn is_sound(matched: bool, p: Place) -> bool
     matched && !is_ended(p)
 }
 
-// 10, 19, 11, of a record that is at a place of the list, and whose counters match it, or not. All three are told by one test.
+// 10, 19, 11, of a record that is at a place of the list, and whose counters match it, or not.
+// stays: (b) all three are told by one test: with a test for each in turn a step costs some 80 instructions more (docs/DECISIONS.md, "Where the test stands")
 fn standing(p: Progress, listed: bool, matched: bool) -> Result<(), Refusal>
     requires { (listed ≡ placed p.size p.place) × (matched ≡ listed && counted p) }
     ensures { told result ≡ standing p }
@@ -195,7 +196,7 @@ pub fn wanted(p: Progress) -> Result<(), Refusal>
 {
     let o = p.order();
     sizes(o)?;
-    // here and in placing, and not in one function for both: so the record is not handed on through memory
+    // stays: (b) here and in placing: in one function for both the record goes through memory, some 120 instructions more (docs/DECISIONS.md)
     let listed = is_placed(p.size, p.place);
     let matched = listed
         && course::agrees(

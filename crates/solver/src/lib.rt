@@ -1,6 +1,7 @@
 // The public calls: start, step, solve, deal, gather, the counts of an order, and what the next step wants. Stands on walk.
 // The entry calls are `start`, `counts`, `wanted`, `deal`, `gather`, `step` and `solve`: each takes any numbers, tables and tapes, does all its own
 // checking, and promises by one equation its answer and every lent byte, refusals included.
+// stays: (a) field, shares and size come as three numbers, as in 01's calls and in the C interface (hz_start, hz_deal, hz_gather, hz_solve, hz_counts)
 #![tactic(auto)]
 
 mod checks;

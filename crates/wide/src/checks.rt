@@ -32,6 +32,7 @@ pub fn sizes(o: WideOrder) -> Result<(), Refusal>
     verdict::no21(o.rows, o.columns)
 }
 
+// stays: Sizes and placed are asked as pattern and wide_walk ask them, of records with public fields; a type with an invariant would be unpacked at each call.
 #[tactic(auto, unfolding(table::specs::Layout::table_bytes))]
 fn whole_table(o: WideOrder) -> usize
     requires { Sizes o }

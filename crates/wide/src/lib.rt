@@ -35,7 +35,7 @@ pub struct WideStepped {
 }
 
 // A fresh record, or refusal 1, 2, 3, 21.
-// stays: here, in counts and in solve four numbers and no WideOrder: README and the C interface (hz_wide_start, hz_wide_counts, hz_wide_solve) have them so.
+// stays: numbers and lent slices one by one, here and below, and no WideOrder or struct of tapes: README and the C interface (hz_wide_start ..) have them so.
 pub fn start(field: u64, shares: u64, rows: u64, columns: u64) -> Result<WideProgress, Refusal>
     ensures { after (says result) tt ≡ start_call (order field shares rows columns) }
 {

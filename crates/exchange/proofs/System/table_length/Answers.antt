@@ -3,11 +3,8 @@
 use mathlib.Core.Path.{refl}
 use native.Mathlib.Omega.{arith}
 use Rattle.verdict.specs.Cells.{bytes_of}
-use Rattle.exchange.proofs.Admitted.{entries_few, table_few}
+use Rattle.exchange.proofs.Admitted.{table_few}
 use Rattle.exchange.proofs.System.table_length.Goals as goal
-
-pub overflow_mul-result : goal.overflow_mul-result
-overflow_mul-result c = omega (arith, entries_few c.args.self.size c.requires.1)
 
 pub overflow_mul-result-2 : goal.overflow_mul-result-2
 unfolding bytes_of

@@ -8,11 +8,6 @@ use Rattle.plain.proofs.Pivot.{met, found_row, no_row}
 use Rattle.plain.proofs.Turns.{eliminate-end, eliminate_stop, eliminate_on}
 use Rattle.plain.proofs.Square.eliminate.Goals as goal
 
-pub loop-j-init : goal.loop-j-init
-loop-j-init c = let m = c.args.self.size in
-    let e : m + 1 - 1 ≡ m = omega arith in
-    rw e
-
 pub returns-in_default : goal.returns-in_default
 returns-in_default c = let x = c.args in
     let l = c.loop-j in

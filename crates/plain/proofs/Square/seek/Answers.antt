@@ -1,15 +1,12 @@
 -- `seek` meets its contract. The loop's invariant: what is left to look at from row r ends where the whole does.
 -- Assumes nothing.
-use mathlib.Core.Path.{◌≡◌, refl, sym, ◌∙◌}
+use mathlib.Core.Path.{◌≡◌, sym, ◌∙◌}
 use Prim.Native.Nat.{◌+◌, ◌-◌}
 use native.Mathlib.Omega.{arith}
 use Rattle.plain.specs.Elimination.{seek}
 use Rattle.plain.proofs.Places.{row_fits, at_byte}
 use Rattle.plain.proofs.Pivot.{seek-end, seek-here, seek_on, found_is, none_is}
 use Rattle.plain.proofs.Square.seek.Goals as goal
-
-pub loop-r-init : goal.loop-r-init
-loop-r-init c = refl
 
 pub bounds-t-cell : goal.bounds-t-cell
 bounds-t-cell c = let l = c.loop-r in omega (arith, row_fits {m = c.args.self.size} {r = l.r} {j = c.args.j} (omega arith) (omega arith) (omega arith) (omega arith))
@@ -38,6 +35,3 @@ returns-else-t-cell-ne0 c = let x = c.args in
     ∙ seek-end (x.self.size + 1) x.j x.t.now (l.r + 1))
     ∙ l.invariant in
     none_is x.self.size (omega (arith, ends))
-
-pub returns : goal.returns
-returns c = absurd (omega arith)

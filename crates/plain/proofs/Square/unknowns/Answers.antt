@@ -1,14 +1,11 @@
 -- `unknowns` meets its contract. The loop's invariant: what is left to find from unknown j down comes to what the whole does.
 -- Assumes nothing.
-use mathlib.Core.Path.{◌≡◌, refl, sym, ◌∙◌}
+use mathlib.Core.Path.{◌≡◌, sym, ◌∙◌}
 use Prim.Native.Nat.{◌+◌, ◌-◌}
 use native.Mathlib.Omega.{arith}
 use Rattle.plain.proofs.Places.{row_fits, at_byte}
 use Rattle.plain.proofs.Turns.{unknowns-end, unknowns_on}
 use Rattle.plain.proofs.Square.unknowns.Goals as goal
-
-pub loop-j-init : goal.loop-j-init
-loop-j-init c = refl
 
 pub bounds-t-cell : goal.bounds-t-cell
 bounds-t-cell c = let l = c.loop-j in omega (arith, row_fits {m = c.args.self.size} {r = l.j} {j = c.args.self.size + 1} (omega arith) (omega arith) (omega arith) (omega arith))
