@@ -15,7 +15,7 @@ use pattern::{Pivots, WideOrder, WidePlace, WideProgress};
 use table::Shape;
 
 // How a wide solve ends, with the steps, mask draws and nonzero draws taken.
-#[derive(Clone, Copy)]
+#[derive(Clone, Copy, Debug, PartialEq, Eq)]
 pub enum WideEnding {
     Solved(Counts),
     Short(Counts),
@@ -77,14 +77,14 @@ pub fn solve(
             }
             WidePlace::Short => {
                 return WideEnding::Short(Counts {
-                    steps: steps,
+                    steps,
                     mask: at,
                     nonzero: at2,
                 });
             }
             WidePlace::Done => {
                 return WideEnding::Solved(Counts {
-                    steps: steps,
+                    steps,
                     mask: at,
                     nonzero: at2,
                 });

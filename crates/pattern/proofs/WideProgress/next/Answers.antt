@@ -20,8 +20,8 @@ cost-d-requires c =
     let w = places p.order (listed p.pivots) says.0.rise (few_slots p.order c.requires.sizes p.pivots slots says.0) c.args.s stood in
     record { sizes = c.requires.sizes; bound = (w.column_low, w.column_high) }
 
-pub found_by-v-requires : goal.found_by-v-requires
-found_by-v-requires c =
+pub found_by-pivots-requires : goal.found_by-pivots-requires
+found_by-pivots-requires c =
     let p = c.args.self in
     let slots : length p.pivots.columns ≡ most_rows = search rules in
     let says = placed-says p c.requires.self_value.0 in
@@ -37,8 +37,8 @@ place_after-requires c =
     let w = places p.order (listed p.pivots) says.0.rise (few_slots p.order c.requires.sizes p.pivots slots says.0) c.args.s stood in
     let k = kept-after p.order c.requires.sizes c.args.s c.args.x p.pivots says.0 slots stood in
     record {
-      rows_le_most_rows = rw c.found_by-v.ensures (c.requires.sizes.most, k.few, omega (arith, w.column_high, c.requires.sizes.widest));
-      earlier = rw (c.found_by-v.ensures, listed_found p.order c.requires.sizes c.args.s c.args.x p.pivots says.0 slots stood) (earlier p.order c.args.s c.args.x (listed p.pivots) stood);
+      rows_le_most_rows = rw c.found_by-pivots.ensures (c.requires.sizes.most, k.few, omega (arith, w.column_high, c.requires.sizes.widest));
+      earlier = rw (c.found_by-pivots.ensures, listed_found p.order c.requires.sizes c.args.s c.args.x p.pivots says.0 slots stood) (earlier p.order c.args.s c.args.x (listed p.pivots) stood);
     }
 
 pub overflow_add-result : goal.overflow_add-result
@@ -49,4 +49,4 @@ overflow_add-result-2 c = rw c.cost-d.ensures (omega (arith, c.requires.s_bound.
 
 pub returns : goal.returns
 unfolding moved_on
-returns c = rw (c.place_after.ensures, c.found_by-v.ensures, c.cost-d.ensures)
+returns c = rw (c.place_after.ensures, c.found_by-pivots.ensures, c.cost-d.ensures)
