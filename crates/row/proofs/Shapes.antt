@@ -118,7 +118,8 @@ module _ {b n l w stream room : ℕ} (S : Shape b n l w stream room) (columns : 
       (omega (arith, S.least)) (omega arith) (rw (← e) (simp length-replicate stream-room)) (div-mul-le_self (l + 16) n)
       (some l S.block.0 S.block.2) (le-div (suc (l / n)) (l + 16) n few (omega (arith, suc-mul (l / n) n, S.block.2, S.most))) (some w S.wide.0 S.wide.1)
       (rw (← S.block.2) (blocks-hold (columns * n) l S.block.0)) (rw (← S.block.2) (blocks_in S columns le))
-      (rw (← S.wide.1) (span_fits S columns le)) (rw (← S.wide.1) (le_refl _)) (simp length-replicate (rows_room S columns le)) (omega (arith, span_room S columns le)) (zeros-at room) small la c₁ m₁ m₂ c₂ out ec em
+      (rw (← S.wide.1) (span_fits S columns le)) (rw (← S.wide.1) (le_refl _))
+      (simp length-replicate (rows_room S columns le)) (omega (arith, span_room S columns le)) (zeros-at room) small la c₁ m₁ m₂ c₂ out ec em
       (ed ∙ ap (λ (y : ℕ). doubled_rows y (l + 16) m₁) e)
       (ep ∙ ap₂ (λ (y z : ℕ). all_products y n z (l + 16) blocks span row m₂ c₁) e S.block.2)
       (eg ∙ ap (λ (y : ℕ). gather_all n y wide span c₂ row) S.wide.1)

@@ -1,13 +1,13 @@
 -- What stands in the rows of repeated and doubled shares.
 -- Assumes nothing.
 use mathlib.Core.Path.{◌≡◌, refl, sym, ap, ◌∙◌}
-use Prim.Native.Nat.{ℕ, zero, suc, ◌+◌, ◌-◌, ◌*◌, ◌<◌, ◌≤◌}
+use Prim.Native.Nat.{ℕ, suc, ◌+◌, ◌-◌, ◌*◌, ◌<◌, ◌≤◌}
 use mathlib.Core.List.{List}
 use native.Mathlib.Omega.{arith}
 use native.Mathlib.Decide.{ℕ_discrete}
 use native.Mathlib.Nat.{suc-mul, mul-le-mul_right}
-use lib.ListN.{length, get_or, set, length-set}
-use lib.Seq.{get_or-set_same, get_or-set_other, paste, paste-zero, paste-suc}
+use lib.ListN.{length, get_or, length-set}
+use lib.Seq.{get_or-set_same, get_or-set_other}
 use Rattle.sharing.specs.Run.{run}
 use Rattle.sharing.proofs.Loops.{run_length}
 use Rattle.sharing.proofs.Pairs.{run_holds}
@@ -22,13 +22,6 @@ repeat_turn-length n a u m = run_length (once_turn a (u * n)) (λ k s. length-se
 pub repeated-length : (n turns : ℕ) (a m : List ℕ) → length (repeated n turns a m) ≡ length m
 unfolding repeated
 repeated-length n turns a m = run_length (repeat_turn n a) (λ u s. repeat_turn-length n a u s) turns m
-
--- one turn copies the shares to `at`
-pub once-paste : (n at : ℕ) (a m : List ℕ) → n ≤ length a → at + n ≤ length m → run (once_turn a at) n m ≡ paste m at a n
-unfolding run
-once-paste zero at a m l h = paste-zero m at a
-once-paste (suc n) at a m l h =
-    ap (λ (x : List ℕ). set x (at + n) (get_or a n 0)) (once-paste n at a m (omega arith) (omega arith)) ∙ paste-suc m at a n 0 (omega arith) (omega arith)
 
 module _ (n : ℕ) (a : List ℕ) where
   -- after s shares of those that begin at `at`

@@ -26,7 +26,7 @@ ghost use Rattle.row.specs.Rows.{Products};
 // Room for a row, and for n work rows: whole blocks of 16 or 48 bytes.
 pub const ROW_ROOM: usize = (sharing::MOST_WIDTH * 4 + 15) / 16 * 16;
 
-// stays: three constants, since Rattle has no computed const argument (fixed memory, a rule of the project).
+// stays: three constants, since Rattle has no computed const argument, and the room is fixed memory (a rule of the project).
 const WORK_ROOM_2: usize = 2 * ((sharing::MOST_WIDTH * 2 + 47) / 48 * 48);
 
 const WORK_ROOM_3: usize = 3 * ((sharing::MOST_WIDTH * 3 + 47) / 48 * 48);
@@ -45,7 +45,7 @@ fn doubled<const BITS: usize>(x: u8) -> u8
 }
 
 // The factor's shares, over and over.
-// stays: by hand, since `copy_from_slice` looks where the slices lie at each turn: measured, 12 of a hundred more of a whole product for two shares.
+// stays: by hand: with `copy_from_slice` a whole product of two shares takes 12 of a hundred more instructions (measured).
 fn repeat<const N: usize>(turns: usize, m: &mut [u8], a: &[u8; N])
     requires { turns * N ≤ length m.old }
     ensures { m.new ≡ repeated N turns a.now m.old }
@@ -58,7 +58,7 @@ fn repeat<const N: usize>(turns: usize, m: &mut [u8], a: &[u8; N])
 }
 
 // Each row of the stream is the one before it, doubled.
-// stays: by the index, since each turn reads and writes two places of one slice, which `split_at_mut` and `zip` would say for one row at a time.
+// stays: by the index: each turn reads one place of m and writes another, and `split_at_mut` for each row is no plainer.
 fn double_rows<const BITS: usize>(r: usize, m: &mut [u8])
     requires { (1 ≤ BITS) × (BITS ≤ 8) × (r ≤ 64) × (BITS * r ≤ length m.old) }
     ensures { m.new ≡ doubled_rows BITS r m.old }
@@ -68,6 +68,7 @@ fn double_rows<const BITS: usize>(r: usize, m: &mut [u8])
     }
 }
 
+// stays: span beside c, and r beside m: a struct around what is lent here to write and in `gather` to read is no plainer.
 // The pairs of i; the first of them is pair number at of the column's, whose first byte is at a and whose first draw is number b.
 fn spread_of<const N: usize>(
     span: usize,
@@ -115,8 +116,7 @@ fn spread<const N: usize>(columns: usize, span: usize, c: &mut [u8], z: &[u8])
 }
 
 // The byte y times the share that stands at g of m.
-// stays: bits is an argument here and in its callers, not a const parameter: measured, with one the compiler takes the bits apart first, jumps by each bit
-// of a byte, which no share may choose, and makes 3 to 6 times the instructions of a whole product.
+// stays: bits is an argument: as a const parameter it makes jumps by the bits of b, and 3 to 6 times the instructions (measured).
 fn term(bits: usize, r: usize, m: &[u8], g: usize, y: u8) -> u8
     requires { (bits ≤ 8) × (r ≤ 64) × (g < r) × (bits * r ≤ length m.now) }
     ensures { result ≡ term m.now r bits g y }
@@ -242,9 +242,9 @@ fn reduced(f: u64, a: &mut [u8], factor: &[u8])
     }
 }
 
-// The passes for a field and a number of shares. The numbers are parameters of the type, so that the compiler unrolls what goes over shares and bits.
+// The passes for a field and a number of shares. The numbers are const parameters, so that the compiler unrolls what goes over shares and bits.
 // The products go by blocks of BLOCK bytes and the sums by blocks of WIDE: 16, or 48, where 16 is no multiple of N or the body is so small that it
-// would unroll the block too.
+// would unroll the block too. A row of the stream is 16 bytes longer than a block, since it is read from up to N places on.
 fn passes<
     const BITS: usize,
     const N: usize,

@@ -14,5 +14,6 @@ loop-q-init g c = run_none _ _
 pub loop-q-preserved : goal.loop-q-preserved
 loop-q-preserved g c =
     let at = c.args.at in
-    let e : get_or (take ((at + g.row.BLOCK) - at) (drop at c.args.b.now)) c.loop-q.q 0 ≡ get_or c.args.b.now (at + c.loop-q.q) 0 = get_or-take _ (drop at c.args.b.now) c.loop-q.q 0 (omega arith) ∙ get_or-drop at c.args.b.now c.loop-q.q 0 in
+    let e : get_or (take ((at + g.row.BLOCK) - at) (drop at c.args.b.now)) c.loop-q.q 0 ≡ get_or c.args.b.now (at + c.loop-q.q) 0 =
+    get_or-take _ (drop at c.args.b.now) c.loop-q.q 0 (omega arith) ∙ get_or-drop at c.args.b.now c.loop-q.q 0 in
     run-next _ _ _ _ _ c.loop-q.invariant (rw e at c.product_byte.ensures)
