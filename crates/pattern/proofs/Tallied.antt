@@ -13,12 +13,13 @@ use Rattle.pattern.specs.declared.WidePlace.TheVariants.{At}
 use Rattle.pattern.specs.declared.WideProgress.{WideProgress}
 use Rattle.pattern.specs.Pivots.{row_of, last, listed}
 use Rattle.pattern.specs.PatternList.{Sizes}
-use Rattle.pattern.specs.Next.{placed}
+use Rattle.pattern.specs.Code.Asked.{Earlier, Roomy}
+use Rattle.pattern.specs.Next.{placed, found_by}
 use Rattle.pattern.proofs.Ascending.{last_high}
 use Rattle.pattern.proofs.Slots.{used}
 use Rattle.pattern.proofs.Before.{some_pivot}
 use Rattle.pattern.proofs.Placed.{Places, places, few_slots}
-use Rattle.pattern.proofs.Moving.{placed-says}
+use Rattle.pattern.proofs.Moving.{placed-says, roomy, earlier, listed_found, kept-after}
 
 pub few_found : (p : WideProgress) → Sizes p.order → placed p ≡ true → (p.pivots.found ≤ p.order.rows) × (p.pivots.found ≤ most_rows)
 few_found p z h = let k = (placed-says p h).0 in (k.few, omega (arith, k.few, z.most))
@@ -52,6 +53,17 @@ some_found p j z l h e =
     let st = rw e at w.1 in
     let n = used p.pivots (few_found p z h).1 l in
     (omega (arith, n, some_pivot p.order (listed p.pivots) w.0.rise st), st.1)
+
+-- and what its next place asks: a slot for its pivot, pivots that are kept, and a pivot before a Lift's column
+pub next_in : (p : WideProgress) (s : Step) (x : ℕ) → Sizes p.order → length p.pivots.columns ≡ most_rows → placed p ≡ true → p.place ≡ At s
+    → ((found_by s x p.pivots).found ≤ p.order.rows) × Roomy s p.pivots × Earlier (listed (found_by s x p.pivots)) s
+next_in p s x z l h e =
+    let w = placed-says p h in
+    let st = rw e at w.1 in (
+      (kept-after p.order z s x p.pivots w.0 l st).few,
+      roomy p.order z s p.pivots w.0 l st,
+      rw (listed_found p.order z s x p.pivots w.0 l st) (earlier p.order s x (listed p.pivots) st),
+    )
 
 -- all of this, for the check to find
 pub ruleset tallied = (few_found, placed_in, below_mix, below_clear, last_in, used)
