@@ -19,26 +19,18 @@ row_small {n} {w} a b = mul-le-mul {n₁ = words_of w} {m₁ = n} {n₂ = 19} {m
 pub bytes_small : {n w : ℕ} → n ≤ 4 → w ≤ most_columns → w * n ≤ 580
 bytes_small {n} {w} a b = mul-le-mul {n₁ = w} {m₁ = n} {n₂ = 145} {m₂ = 4} b a
 
--- a row of k words, or bytes, among rows of them
-pub start_small : {i rows k most : ℕ} → i < rows → rows ≤ 96 → k ≤ most → i * k + k ≤ 96 * most
-start_small {i} {rows} {k} {most} a b c = omega (arith, column_in k a, mul-le-mul {n₁ = rows} {m₁ = k} {n₂ = 96} {m₂ = most} b c)
-
 pub table-rows : (n rows w : ℕ) → table_bytes n rows w ≡ rows * (w * n)
 unfolding table_bytes
 table-rows n rows w = mul_assoc rows w n
 
--- row r of a table in words, from 1: it lies within the words, and not far in
-pub row_within : (n w rows : ℕ) {size have i : ℕ} → n ≤ 4 → w ≤ most_columns → rows ≤ 96 → size ≡ row_words n w → rows * row_words n w ≤ have → i < rows
-    → (i * size + size ≤ have) × (i * size + size ≤ 7296)
-row_within n w rows {size} {have} {i} a b h e f l =
-    rw e (omega (arith, column_in (row_words n w) l), start_small l h (row_small {n = n} {w = w} a b))
+-- row i of a table in words, from 0, lies within the words
+pub row_in : (n w rows : ℕ) {size have i : ℕ} → size ≡ row_words n w → rows * row_words n w ≤ have → i < rows → i * size + size ≤ have
+row_in n w rows {size} {have} {i} e f l = rw e (omega (arith, column_in (row_words n w) l))
 
 -- what stands e columns before the last of w is in a word of the row
 pub entry_within : (n w e : ℕ) → e < w → e / 8 * n + n ≤ row_words n w
 entry_within n w e h = column_in n {u = e / 8} {columns = words_of w} (omega arith)
 
 -- and so as bytes
-pub bytes_within : (n w rows : ℕ) {have i : ℕ} → n ≤ 4 → w ≤ most_columns → rows ≤ 96 → have ≡ table_bytes n rows w → i < rows
-    → (i * (w * n) + w * n ≤ have) × (i * (w * n) + w * n ≤ 55680)
-bytes_within n w rows {have} {i} a b h e l =
-    (omega (arith, e ∙ table-rows n rows w, column_in (w * n) l), start_small l h (bytes_small {n = n} {w = w} a b))
+pub bytes_in : (n w rows : ℕ) {have i : ℕ} → have ≡ table_bytes n rows w → i < rows → i * (w * n) + w * n ≤ have
+bytes_in n w rows {have} {i} e l = omega (arith, e ∙ table-rows n rows w, column_in (w * n) l)

@@ -7,31 +7,22 @@ use Prim.Native.Nat.{ℕ, zero, suc, ◌*◌, ◌≤◌}
 use mathlib.Core.List.{List}
 use native.Mathlib.Omega.{arith}
 use native.Mathlib.Nat.{mul-le-mul_right, mul-le-mul, mul_assoc}
-use lib.Dec.{eqb, lit≤}
+use lib.Dec.{lit≤}
 use lib.ListN.{length, get_or}
-use Rattle.field.specs.Field.{F16, F256, field_of, pick}
+use Rattle.field.specs.Field.{pick}
 use Rattle.field.proofs.Fields.{binary_of}
 use Rattle.sharing.specs.Run.{pairs}
 use Rattle.word.specs.Rows.{words_of}
-use Rattle.plane.specs.Code.Words.{Widths}
 use Rattle.plane.proofs.Choosing.{Taken}
 use Rattle.word_table.specs.Table.{row_words, Room, Told, by_all, by_one}
 
-field_widths : (b : Bool) → Widths (pick b 4 8)
-field_widths true = inr (inl refl)
-field_widths false = inr (inr refl)
-
-pub told_widths : {f w : ℕ} {factor : List ℕ} → Told f factor w → Widths w
-told_widths {f} by_all = let B = binary_of f in rw B.has (field_widths B.sixteen)
-told_widths (by_one b) = inl refl
-
-between : (w : ℕ) → Widths w → (1 ≤ w) × (w ≤ 8)
-between w (inl e) = (omega arith, omega arith)
-between w (inr (inl e)) = (omega arith, omega arith)
-between w (inr (inr e)) = (omega arith, omega arith)
+field_widths : (b : Bool) → (1 ≤ pick b 4 8) × (pick b 4 8 ≤ 8)
+field_widths true = (lit≤ tt, lit≤ tt)
+field_widths false = (lit≤ tt, lit≤ tt)
 
 pub told_between : {f w : ℕ} {factor : List ℕ} → Told f factor w → (1 ≤ w) × (w ≤ 8)
-told_between {w = w} t = between w (told_widths t)
+told_between {f} by_all = let B = binary_of f in rw B.has (field_widths B.sixteen)
+told_between (by_one b) = (lit≤ tt, lit≤ tt)
 
 pub told-taken : {f w : ℕ} {factor : List ℕ} → Told f factor w → (i : ℕ) → Taken f w (get_or factor i 0)
 told-taken by_all i = inl refl
@@ -45,15 +36,6 @@ pairs_some (suc (suc zero)) a b = (lit≤ tt, lit≤ tt, λ e. absurd (omega (ar
 pairs_some (suc (suc (suc zero))) a b = (lit≤ tt, lit≤ tt, λ e. absurd (omega (arith, e)))
 pairs_some (suc (suc (suc (suc zero)))) a b = (lit≤ tt, lit≤ tt, λ e. absurd (omega (arith, e)))
 pairs_some (suc (suc (suc (suc (suc n))))) a b = absurd (omega arith)
-
--- draws are dealt modulo the field's q
-pub order-of : (f : ℕ) → pick (eqb f 16) 16 256 ≡ (field_of f).q
-unfolding field_of F16 F256
-order-of f = by (eqb f 16)
-  where
-    by : (b : Bool) → pick b 16 256 ≡ (pick b F16 F256).q
-    by true = refl
-    by false = refl
 
 -- columns that are no more than w take no more room
 module _ (n w columns : ℕ) (l : columns ≤ w) where

@@ -5,7 +5,7 @@
 #![tactic(auto)]
 
 ghost use Rattle.std.specs.Prelude.{false, ◌≡◌, ◌+◌, ◌-◌, ◌*◌, ◌<◌, ◌≤◌, length};
-ghost use Rattle.field.specs.Field.{field_of, bits};
+ghost use Rattle.field.specs.Field.{field_of};
 ghost use Rattle.sharing.specs.Run.{pairs};
 ghost use Rattle.sharing.specs.Lists.{Below};
 ghost use Rattle.sharing.specs.Bounds.{most_columns};
@@ -15,7 +15,7 @@ ghost use Rattle.table.specs.Steps.{join_rows, mix, check, scale, clear};
 ghost use Rattle.table.specs.Costs.{mix_cost, check_cost, scale_cost, scale_nonzero, clear_cost};
 ghost use Rattle.word.specs.Rows.{words_of, bytes_of, PutBytes};
 ghost use Rattle.word_table.specs.Code.Scaling.{scale_bytes};
-ghost use Rattle.word_table.specs.Table.{row_words, table_of, LoadedRow, store_turn, Room, Told};
+ghost use Rattle.word_table.specs.Table.{row_words, table_of, Room, Told};
 
 use table::Shape;
 
@@ -27,41 +27,19 @@ fn row_words(n: usize, w: usize) -> usize
     (w + 7) / 8 * n
 }
 
-// Turn r of load.
-fn load_row(n: usize, rows: usize, w: usize, words: &mut [u64], table: &[u8], r: usize)
-    requires bounded { Bounded n rows w }
-    requires le_w { (1 ≤ w) × (r < rows) × (length table.now ≡ table_bytes n rows w) × (rows * row_words n w ≤ length words.old) }
-    ensures { LoadedRow n w r table.now words.old words.new }
-{
-    let size = row_words(n, w);
-    let len = w * n;
-    let a = r * size;
-    let o = r * len;
-    dealing::deal(false, n, w, &mut words[a..a + size], &table[o..o + len]);
-}
-
 // A table of bytes into words.
 pub fn load(n: usize, rows: usize, w: usize, words: &mut [u64], table: &[u8])
     requires bounded { Bounded n rows w }
     requires le_w { (1 ≤ w) × (length table.now ≡ table_bytes n rows w) × (rows * row_words n w ≤ length words.old) }
     ensures { table_of n w rows words.new ≡ table.now }
 {
-    for r in 0..rows {
-        load_row(n, rows, w, words, table, r);
-    }
-}
-
-// Turn r of store.
-fn store_row(n: usize, rows: usize, w: usize, table: &mut [u8], words: &[u64], r: usize)
-    requires bounded { Bounded n rows w }
-    requires r_lt_rows { (r < rows) × (length table.old ≡ table_bytes n rows w) × (rows * row_words n w ≤ length words.now) }
-    ensures { table.new ≡ store_turn n w words.now r table.old }
-{
     let size = row_words(n, w);
     let len = w * n;
-    let a = r * size;
-    let o = r * len;
-    word::take_row(n, w, &mut table[o..o + len], &words[a..a + size]);
+    for r in 0..rows {
+        let a = r * size;
+        let o = r * len;
+        dealing::deal(256, n, w, &mut words[a..a + size], &table[o..o + len]);
+    }
 }
 
 // A table in words into bytes.
@@ -70,8 +48,12 @@ pub fn store(n: usize, rows: usize, w: usize, table: &mut [u8], words: &[u64])
     requires table_len { (length table.old ≡ table_bytes n rows w) × (rows * row_words n w ≤ length words.now) }
     ensures { table.new ≡ table_of n w rows words.now }
 {
+    let size = row_words(n, w);
+    let len = w * n;
     for r in 0..rows {
-        store_row(n, rows, w, table, words, r);
+        let a = r * size;
+        let o = r * len;
+        word::take_row(n, w, &mut table[o..o + len], &words[a..a + size]);
     }
 }
 
@@ -131,11 +113,19 @@ pub fn check(
     sharing::opening(f, &mut flag[..n], &mask[d..])
 }
 
-// Row a += Product(factor, row b), from column j on, where `bits` bits tell the factor. What is lent after the tape is room to work in, and hidden is
-// 0 in a way that the compiler does not see through.
-fn join_rows(
+// What the steps are lent to work in. hidden is 0 in a way that the compiler does not see through.
+#[derive(Drop)]
+pub struct Workspace<'a> {
+    pub other: &'a mut [u64],
+    pub draws: &'a mut [u64],
+    pub products: &'a mut [u64],
+    pub masks: &'a mut [u64],
+    pub hidden: u64,
+}
+
+// Row a += Product(factor, row b), from column j on, where BITS bits tell the factor.
+fn join_rows<const BITS: usize>(
     f: u64,
-    bits: usize,
     n: usize,
     rows: usize,
     w: usize,
@@ -145,40 +135,33 @@ fn join_rows(
     b: usize,
     j: usize,
     mask: &[u8],
-    other: &mut [u64],
-    draws: &mut [u64],
-    products: &mut [u64],
-    masks: &mut [u64],
-    hidden: u64,
+    lent: Workspace<'_>,
 )
     requires bounded { Bounded n rows w }
     requires inside { Inside rows w a j × Inside rows w b j }
-    requires w_in_bounds { (rows * row_words n w ≤ length words.old) × (length factor.now ≡ n) × (columns_from w j * pairs n ≤ length mask.now) × (hidden ≡ 0) }
-    requires room { Room n w other.old draws.old products.old masks.old × Told f factor.now bits }
+    requires w_in_bounds { (rows * row_words n w ≤ length words.old) × (length factor.now ≡ n) × (columns_from w j * pairs n ≤ length mask.now) × (lent.hidden ≡ 0) }
+    requires room { Room n w lent.other.now lent.draws.now lent.products.now lent.masks.now × Told f factor.now BITS }
     requires below { Below (field_of f).q (table_of n w rows words.old) }
     ensures { table_of n w rows words.new ≡ join_rows (field_of f) false n w a b j factor.now mask.now (table_of n w rows words.old) }
 {
+    let Workspace {
+        other,
+        draws,
+        products,
+        masks,
+        hidden,
+    } = lent;
     let columns = w + 1 - j;
     let size = row_words(n, w);
     let p = (a - 1) * size;
     let o = (b - 1) * size;
     let one = 1 + hidden as u8;
-    let pairs = sharing::pair_count(n);
-    choice::masks_of(bits, masks, factor, one);
-    choice::prepare(bits, n, columns, other, &words[o..o + size]);
-    dealing::deal(f == 16, pairs, columns, draws, mask);
+    choice::masks_of::<BITS>(masks, factor, one);
+    choice::prepare::<BITS>(n, columns, other, &words[o..o + size]);
+    dealing::deal(f, sharing::pair_count(n), columns, draws, mask);
     let count = (columns + 7) / 8;
-    plane::join(
-        bits,
-        n,
-        count,
-        hidden,
-        &mut words[p..p + size],
-        other,
-        masks,
-        draws,
-        products,
-    );
+    let row = &mut words[p..p + size];
+    plane::join::<BITS>(n, count, hidden, row, other, masks, draws, products);
 }
 
 // Mix(j,k), where row r takes column j's pivot. The flag's shares are 0 or 1, so one bit tells them.
@@ -192,46 +175,19 @@ pub fn mix(
     j: usize,
     k: usize,
     mask: &[u8],
-    other: &mut [u64],
-    draws: &mut [u64],
-    products: &mut [u64],
-    masks: &mut [u64],
-    hidden: u64,
+    lent: Workspace<'_>,
 )
     requires bounded { Bounded n rows w }
     requires inside { Inside rows w r j × Inside rows w k j }
-    requires w_in_bounds { (rows * row_words n w ≤ length words.old) × (mix_cost f n (columns_from w j) ≤ length mask.now) × (hidden ≡ 0) }
-    requires room { Room n w other.old draws.old products.old masks.old }
+    requires w_in_bounds { (rows * row_words n w ≤ length words.old) × (mix_cost f n (columns_from w j) ≤ length mask.now) × (lent.hidden ≡ 0) }
+    requires room { Room n w lent.other.now lent.draws.now lent.products.now lent.masks.now }
     requires below { Below (field_of f).q (table_of n w rows words.old) }
     ensures { table_of n w rows words.new ≡ mix f n w r j k mask.now (table_of n w rows words.old) }
 {
     let d = flag::flag_draws(f, n);
     let mut flag = [0u8; 4];
     pivot_flag(f, n, rows, w, words, r, j, &mut flag[..n], mask);
-    join_rows(
-        f,
-        1,
-        n,
-        rows,
-        w,
-        words,
-        &flag[..n],
-        r,
-        k,
-        j,
-        &mask[d..],
-        other,
-        draws,
-        products,
-        masks,
-        hidden,
-    );
-}
-
-fn field_bits(f: u64) -> usize
-    ensures { result ≡ bits f }
-{
-    if f == 16 { 4 } else { 8 }
+    join_rows::<1>(f, n, rows, w, words, &flag[..n], r, k, j, &mask[d..], lent);
 }
 
 // Clear(j,k), where row r takes column j's pivot.
@@ -245,40 +201,24 @@ pub fn clear(
     j: usize,
     k: usize,
     mask: &[u8],
-    other: &mut [u64],
-    draws: &mut [u64],
-    products: &mut [u64],
-    masks: &mut [u64],
-    hidden: u64,
+    lent: Workspace<'_>,
 )
     requires bounded { Bounded n rows w }
     requires inside { Inside rows w r j × Inside rows w k j }
-    requires w_in_bounds { (rows * row_words n w ≤ length words.old) × (clear_cost n (columns_from w j) ≤ length mask.now) × (hidden ≡ 0) }
-    requires room { Room n w other.old draws.old products.old masks.old }
+    requires w_in_bounds { (rows * row_words n w ≤ length words.old) × (clear_cost n (columns_from w j) ≤ length mask.now) × (lent.hidden ≡ 0) }
+    requires room { Room n w lent.other.now lent.draws.now lent.products.now lent.masks.now }
     requires below { Below (field_of f).q (table_of n w rows words.old) }
     ensures { table_of n w rows words.new ≡ clear f n w r j k mask.now (table_of n w rows words.old) }
 {
     let mut copy = [0u8; 4];
     entry(n, rows, w, words, k, j, &mut copy[..n]);
-    let bits = field_bits(f);
-    join_rows(
-        f,
-        bits,
-        n,
-        rows,
-        w,
-        words,
-        &copy[..n],
-        k,
-        r,
-        j,
-        mask,
-        other,
-        draws,
-        products,
-        masks,
-        hidden,
-    );
+    let factor = &copy[..n];
+    let room = lent;
+    if f == 16 {
+        join_rows::<4>(f, n, rows, w, words, factor, k, r, j, mask, room);
+    } else {
+        join_rows::<8>(f, n, rows, w, words, factor, k, r, j, mask, room);
+    }
 }
 
 // A row of bytes whose first entry is the pivot: each entry times the pivot's inverse, factor by factor, as of a table of this row alone.
