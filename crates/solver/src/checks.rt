@@ -61,10 +61,11 @@ fn deal_draws(o: Order) -> usize
     entry_count(o.size) * (o.shares as usize - 1)
 }
 
-fn deal_lent(o: Order, values: &[u8], target: usize, mask: usize) -> Result<(), Refusal>
-    requires { Sizes o }
-    ensures { told result ≡ buffers o.field (value_rows o) (entries o.size) values.now (whole_table o) target or no7 (deal_draws o) mask }
+// 1 to 7
+pub fn deal(o: Order, values: &[u8], target: usize, mask: usize) -> Result<(), Refusal>
+    ensures { told result ≡ deal_order o values.now target mask }
 {
+    sizes(o)?;
     verdict::buffers(
         o.field,
         value_rows(o),
@@ -74,14 +75,6 @@ fn deal_lent(o: Order, values: &[u8], target: usize, mask: usize) -> Result<(), 
         target,
     )?;
     verdict::no7(deal_draws(o), mask)
-}
-
-// 1 to 7
-pub fn deal(o: Order, values: &[u8], target: usize, mask: usize) -> Result<(), Refusal>
-    ensures { told result ≡ deal_order o values.now target mask }
-{
-    sizes(o)?;
-    deal_lent(o, values, target, mask)
 }
 
 // 1 to 6
@@ -108,27 +101,6 @@ fn tapes(o: Order, mask: usize, nonzero: &[u8]) -> Result<(), Refusal>
     verdict::at_least(o.field, full.mask, full.nonzero, mask, nonzero)
 }
 
-fn solve_lent(
-    o: Order,
-    table: &[u8],
-    solution: usize,
-    mask: usize,
-    nonzero: &[u8],
-) -> Result<(), Refusal>
-    requires { Sizes o }
-    ensures { told result ≡ buffers o.field (table_rows o) (whole_table o) table.now o.size solution or tapes o mask nonzero.now }
-{
-    verdict::buffers(
-        o.field,
-        table_rows(o),
-        whole_table(o),
-        table,
-        o.size as usize,
-        solution,
-    )?;
-    tapes(o, mask, nonzero)
-}
-
 // 1 to 9
 pub fn solve(
     o: Order,
@@ -140,7 +112,15 @@ pub fn solve(
     ensures { told result ≡ solve_order o table.now solution mask nonzero.now }
 {
     sizes(o)?;
-    solve_lent(o, table, solution, mask, nonzero)
+    verdict::buffers(
+        o.field,
+        table_rows(o),
+        whole_table(o),
+        table,
+        o.size as usize,
+        solution,
+    )?;
+    tapes(o, mask, nonzero)
 }
 
 fn is_placed(m: u64, p: Place) -> bool
