@@ -1,12 +1,11 @@
 // The checks of the public calls: the order of each, with refusals 10 to 12, 19 and 20, which are about a progress record. Nothing lent is written.
-ghost use Rattle.std.specs.Prelude.{◌≡◌, true, not, ◌&&◌, ◌≤◌, length};
+ghost use Rattle.std.specs.Prelude.{◌≡◌, true, ◌&&◌, ◌≤◌, length};
 ghost use Rattle.sharing.specs.Bounds.{most_rows, most_entries};
 ghost use Rattle.course.specs.StepList.{Sizes};
 ghost use Rattle.course.specs.Next.{order_of, counted};
 ghost use Rattle.verdict.specs.Told.{passed, ◌or◌};
 ghost use Rattle.verdict.specs.Refusals.{no7, no9, buffers};
 ghost use Rattle.solver.specs.Refusals.{placed, ended, entries, whole_table, table_rows, value_rows, deal_draws, cost_at, mask_at, nonzero_at, no20, no12, sizes, deal_order, gather_order, tapes, solve_order, standing, wanted_order, placing, lending, step_order};
-ghost use Rattle.solver.specs.Code.Fault.{fault_of};
 ghost use Rattle.verdict.specs.Code.Verdicts.{told};
 ghost use Rattle.verdict.specs.Cells.{NonEmpty};
 
@@ -62,10 +61,11 @@ fn deal_draws(o: Order) -> usize
     entry_count(o.size) * (o.shares as usize - 1)
 }
 
-fn deal_lent(o: Order, values: &[u8], target: usize, mask: usize) -> Result<(), Refusal>
-    requires { Sizes o }
-    ensures { told result ≡ buffers o.field (value_rows o) (entries o.size) values.now (whole_table o) target or no7 (deal_draws o) mask }
+// 1 to 7
+pub fn deal(o: Order, values: &[u8], target: usize, mask: usize) -> Result<(), Refusal>
+    ensures { told result ≡ deal_order o values.now target mask }
 {
+    sizes(o)?;
     verdict::buffers(
         o.field,
         value_rows(o),
@@ -75,14 +75,6 @@ fn deal_lent(o: Order, values: &[u8], target: usize, mask: usize) -> Result<(), 
         target,
     )?;
     verdict::no7(deal_draws(o), mask)
-}
-
-// 1 to 7
-pub fn deal(o: Order, values: &[u8], target: usize, mask: usize) -> Result<(), Refusal>
-    ensures { told result ≡ deal_order o values.now target mask }
-{
-    sizes(o)?;
-    deal_lent(o, values, target, mask)
 }
 
 // 1 to 6
@@ -109,27 +101,6 @@ fn tapes(o: Order, mask: usize, nonzero: &[u8]) -> Result<(), Refusal>
     verdict::at_least(o.field, full.mask, full.nonzero, mask, nonzero)
 }
 
-fn solve_lent(
-    o: Order,
-    table: &[u8],
-    solution: usize,
-    mask: usize,
-    nonzero: &[u8],
-) -> Result<(), Refusal>
-    requires { Sizes o }
-    ensures { told result ≡ buffers o.field (table_rows o) (whole_table o) table.now o.size solution or tapes o mask nonzero.now }
-{
-    verdict::buffers(
-        o.field,
-        table_rows(o),
-        whole_table(o),
-        table,
-        o.size as usize,
-        solution,
-    )?;
-    tapes(o, mask, nonzero)
-}
-
 // 1 to 9
 pub fn solve(
     o: Order,
@@ -141,7 +112,15 @@ pub fn solve(
     ensures { told result ≡ solve_order o table.now solution mask nonzero.now }
 {
     sizes(o)?;
-    solve_lent(o, table, solution, mask, nonzero)
+    verdict::buffers(
+        o.field,
+        table_rows(o),
+        whole_table(o),
+        table,
+        o.size as usize,
+        solution,
+    )?;
+    tapes(o, mask, nonzero)
 }
 
 fn is_placed(m: u64, p: Place) -> bool
@@ -160,34 +139,18 @@ fn is_ended(p: Place) -> bool
     matches!(p, Place::Stopped(_) | Place::Done)
 }
 
-// The first of 10, 19 and 11 that applies.
-fn fault(listed: bool, matched: bool) -> Refusal
-    ensures { result ≡ fault_of listed matched }
-{
-    if !listed {
-        return Refusal::OffList;
-    }
-    if matched {
-        Refusal::Ended
-    } else {
-        Refusal::Counters
-    }
-}
-
-// Whether none of 10, 19 and 11 applies.
-fn is_sound(matched: bool, p: Place) -> bool
-    ensures { result ≡ matched && not (ended p) }
-{
-    matched && !is_ended(p)
-}
-
 // 10, 19, 11, of a record that is at a place of the list, and whose counters match it, or not.
-// stays: (b) all three are told by one test: with a test for each in turn a step costs some 80 instructions more (docs/DECISIONS.md, "Where the test stands")
 fn standing(p: Progress, listed: bool, matched: bool) -> Result<(), Refusal>
     requires { (listed ≡ placed p.size p.place) × (matched ≡ listed && counted p) }
     ensures { told result ≡ standing p }
 {
-    verdict::refuse_if(!is_sound(matched, p.place), fault(listed, matched))
+    if !listed {
+        return Err(Refusal::OffList);
+    }
+    if !matched {
+        return Err(Refusal::Counters);
+    }
+    verdict::refuse_if(is_ended(p.place), Refusal::Ended)
 }
 
 // 1, 2, 3, 10, 19, 11
@@ -196,7 +159,7 @@ pub fn wanted(p: Progress) -> Result<(), Refusal>
 {
     let o = p.order();
     sizes(o)?;
-    // stays: (b) here and in placing: in one function for both the record goes through memory, some 120 instructions more (docs/DECISIONS.md)
+    // stays: (b) here and in placing: tried in standing, for both, the record goes through memory, and each call costs some 100 instructions more
     let listed = is_placed(p.size, p.place);
     let matched = listed
         && course::agrees(

@@ -11,8 +11,21 @@ pub returns-in_err-sizes : goal.returns-in_err-sizes
 unfolding deal_order ◌or◌
 returns-in_err-sizes c = search rules
 
-pub deal_lent-requires : goal.deal_lent-requires
-deal_lent-requires c = sized _ (passes _ _ _ c.sizes.ensures c.in_ok-sizes.was)
+pub value_rows-requires : goal.value_rows-requires
+value_rows-requires c = sized _ (passes _ _ _ c.sizes.ensures c.in_ok-sizes.was)
+
+pub entry_count-requires : goal.entry_count-requires
+entry_count-requires c = (sized _ (passes _ _ _ c.sizes.ensures c.in_ok-sizes.was)).most
+
+pub whole_table-requires : goal.whole_table-requires
+whole_table-requires c = sized _ (passes _ _ _ c.sizes.ensures c.in_ok-sizes.was)
+
+pub deal_draws-requires : goal.deal_draws-requires
+deal_draws-requires c = sized _ (passes _ _ _ c.sizes.ensures c.in_ok-sizes.was)
+
+pub returns-in_err-buffers : goal.returns-in_err-buffers
+unfolding deal_order ◌or◌
+returns-in_err-buffers c = search rules
 
 pub returns : goal.returns
 unfolding deal_order ◌or◌

@@ -11,8 +11,18 @@ pub returns-in_err-sizes : goal.returns-in_err-sizes
 unfolding solve_order ◌or◌
 returns-in_err-sizes c = search rules
 
-pub solve_lent-requires : goal.solve_lent-requires
-solve_lent-requires c = sized _ (passes _ _ _ c.sizes.ensures c.in_ok-sizes.was)
+pub table_rows-requires : goal.table_rows-requires
+table_rows-requires c = sized _ (passes _ _ _ c.sizes.ensures c.in_ok-sizes.was)
+
+pub whole_table-requires : goal.whole_table-requires
+whole_table-requires c = sized _ (passes _ _ _ c.sizes.ensures c.in_ok-sizes.was)
+
+pub tapes-requires : goal.tapes-requires
+tapes-requires c = sized _ (passes _ _ _ c.sizes.ensures c.in_ok-sizes.was)
+
+pub returns-in_err-buffers : goal.returns-in_err-buffers
+unfolding solve_order ◌or◌
+returns-in_err-buffers c = search rules
 
 pub returns : goal.returns
 unfolding solve_order ◌or◌
