@@ -14,6 +14,7 @@ ghost use Rattle.verdict.specs.Code.Verdicts.{says};
 ghost use Rattle.solver.specs.Calls.{order, start_call, counts_call, deal_call, gather_call, solve_call, Tells, Taken, step_says, left_by, step_call, tells, lent, wanted_call};
 
 use course::{Counts, Draws, Order, Place, Progress, Step};
+use std::fmt;
 use verdict::Refusal;
 use walk::Ending;
 
@@ -24,6 +25,18 @@ pub enum Stride {
     Opened(u64, u8),
     Stopped(u64),
     Done(u8),
+}
+
+// How the programs print it.
+impl fmt::Display for Stride {
+    fn fmt<W: fmt::Write>(&self, f: &mut fmt::Formatter<W>) -> fmt::Result {
+        match self {
+            Stride::Moved => write!(f, "moved"),
+            Stride::Opened(j, x) => write!(f, "opened x_{j} = {x}"),
+            Stride::Stopped(j) => write!(f, "stopped {j}"),
+            Stride::Done(x) => write!(f, "done, x_1 = {x}"),
+        }
+    }
 }
 
 // What a step tells, and the record at the following place.
