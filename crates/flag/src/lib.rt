@@ -40,7 +40,7 @@ fn complement(f: u64, s: &mut [u8])
     requires s_nonzero { 0 < length s.old }
     ensures { s.new ≡ complemented (field_of f) s.old }
 {
-    let ones: u8 = if f == 16 { 15 } else { 255 };
+    let ones = field::reduce(f, 255);
     sharing::add_at(f, s, 0, ones);
 }
 
@@ -58,7 +58,7 @@ fn shift<const N: usize>(f: u64, t: &mut [u8], s: &[u8], h: u8)
     requires { (h < 8) × (length s.now ≡ N) × (length t.old ≡ N) }
     ensures { t.new ≡ shifted (field_of f) h s.now }
 {
-    // stays: the new form misses a bar of speed (over slices the compiler unrolls nothing, DECISIONS, R-6, and N is a number here).
+    // stays: the new form misses a bar of speed (over its slices, here and in reduce, a flag of two shares takes 234 instructions for 218).
     for i in 0..N {
         t[i] = field::reduce(f, s[i]) >> h;
     }
@@ -225,6 +225,7 @@ fn fold_twice(f: u64, s: &mut [u8], x: &mut [u8], y: &mut [u8], ds: &[u8])
 }
 
 // The folds of the flag: h is half the width, then half of that, down to 1.
+// stays: what may not change (docs/OBJECT.md: fold stays a call of its own; called in one place, in a loop over the widths, it is inlined).
 fn fold_all(f: u64, s: &mut [u8], ds: &[u8])
     requires binary { Binary f }
     requires in_bounds { (2 ≤ length s.old) × (length s.old ≤ 4) × (flag_draws f (length s.old) ≤ length ds.now) }

