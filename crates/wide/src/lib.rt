@@ -28,7 +28,7 @@ pub enum WideStride {
 }
 
 // What a step tells, and the record at the following place.
-#[derive(Clone, Copy)]
+#[derive(Clone, Copy, Debug, PartialEq, Eq)]
 pub struct WideStepped {
     pub told: WideStride,
     pub next: WideProgress,
