@@ -14,6 +14,7 @@ use std::io::{Read, Write};
 use verdict::Refusal;
 
 // Puts a text at a place of out, and answers the place behind it.
+// stays: (d) that place is all that the next text needs: a cursor would carry it and the buffer, and say the same of both
 fn append(text: &[u8], out: &mut [u8], at: usize) -> usize
     requires { at + length text.now ≤ length out.old }
     ensures { Wrote out.old at text.now out.new result }
@@ -64,6 +65,7 @@ fn counted(c: Counts, out: &mut [u8]) -> usize
 
 // Makes the line of an input at the front of out, leaves the rest of out as it was, and answers the line's length. The first promise fixes
 // the answer and every byte of out; the second follows from it, and lets a caller lend the line with no proof of its own.
+// stays: (a) the buffer and the line's length come apart, as `Made` and the theorem made_once (docs/PROMISES.md) have them
 pub fn line(input: &[u8], out: &mut [u8; 64]) -> usize
     ensures made { Made out.old (desk_line input.now) out.new result }
     ensures counts_within { IsPrefixLen result out.new }
