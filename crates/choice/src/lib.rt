@@ -59,6 +59,7 @@ fn prepare_part<const BITS: usize>(
     requires { (BITS ≤ 8) × (from ≤ to) × (to ≤ most_words) × (to ≤ length row.now) × (to * BITS ≤ length other.old) }
     ensures { WroteGroups BITS from to (IsMultipleOf BITS live row.now) other.old other.new }
 {
+    // stays: the groups are lent from `other` one by one, and after chunks_mut a proof knows no element of it
     for g in from..to {
         let at = g * BITS;
         multiples::<BITS>(&mut other[at..at + BITS], row[g] & live);

@@ -16,6 +16,7 @@ fn word_at<const N: usize>(d: &[u8], o: usize) -> u64
     ensures { Lanes result (λ l. get_or d.now (o + l * N) 0) }
 {
     let mut bytes = [0u8; 8];
+    // stays: a lane's number is what its byte's place in d is counted from, so that an iterator over the array gives the index all the same
     for l in 0..8 {
         bytes[l] = d[o + l * N];
     }
@@ -28,6 +29,7 @@ fn four_at(d: &[u8], o: usize, m: usize) -> u64
     ensures { Lanes result (λ l. get_or d.now (o + l / 2 * m + l % 2) 0) }
 {
     let mut v: u64 = 0;
+    // stays: q is the pair's number, from which both its bytes are found; step_by over d gives one of them
     for q in (0..4).rev() {
         let p = o + q * m;
         let pair = u16::from_le_bytes([d[p], d[p + 1]]);
@@ -56,6 +58,7 @@ fn few_at(d: &[u8], o: usize, n: usize, rest: usize) -> u64
     ensures { Lanes result (column_byte n d.now 0 (8 - rest) o) }
 {
     let mut v: u64 = 0;
+    // stays: the number of a column gives its byte's place, n apart; a step_by over d asks for a measure and ends by its own length
     for q in 0..rest {
         v = (v >> 8) ^ (u64::from(d[o + q * n]) << 56);
     }
@@ -67,8 +70,9 @@ fn few(n: usize, columns: usize, low: u64, row: &mut [u64], d: &[u8])
     requires { (n ≤ 6) × (columns ≤ 8) × (n ≤ length row.old) × (columns * n ≤ length d.now) }
     ensures { Written 0 n (kept_byte low n d.now 0 (8 - columns)) row.old row.new }
 {
-    for k in 0..n {
-        row[k] = few_at(d, k, n, columns) & low;
+    let words = &mut row[..n];
+    for (k, word) in words.iter_mut().enumerate() {
+        *word = few_at(d, k, n, columns) & low;
     }
 }
 
@@ -77,6 +81,7 @@ fn pairs_word<const N: usize>(d: &[u8], o: usize, shift: u64, low: u64, row: &mu
     requires { (N ≤ 6) × (o + 8 * N ≤ length d.now) × (shift < 64) × (shift % 8 ≡ 0) × (at + N ≤ length row.old) }
     ensures { Written at (N / 2 * 2) (kept_byte low N d.now o (shift / 8)) row.old row.new }
 {
+    // stays: two words are written a turn, and after chunks_mut a proof knows no element of what was lent (std has no clause on it)
     for p in 0..N / 2 {
         let k = 2 * p;
         let (x, y) = two_at::<N>(d, o + k);
@@ -102,6 +107,7 @@ fn deal_many<const N: usize>(columns: usize, low: u64, row: &mut [u64], d: &[u8]
     requires n_in_bounds { (columns * N ≤ length d.now) × (words_of columns * N ≤ length row.old) }
     ensures { DealtWords low N columns (words_of columns) d.now row.new }
 {
+    // stays: a turn's words, at u * N, are lent on as a part: after chunks_mut a proof knows no element of the row
     for u in 0..(columns + 7) / 8 {
         let left = columns - 8 * u;
         let (first, shift) = if left < 8 {

@@ -17,6 +17,7 @@ fn times<const BITS: usize>(other: &[u64], b: usize, masks: &[u64], a: usize) ->
     ensures { result ≡ dot BITS masks.now a other.now b }
 {
     let mut v: u64 = 0;
+    // stays: masks and words stand at places of their own in two slices, and a zip over two parts of them is no shorter
     for t in 0..BITS {
         v ^= masks[a + t] & other[b + t];
     }
@@ -34,6 +35,7 @@ fn word_products<const BITS: usize, const N: usize>(
     requires { (N * BITS ≤ length masks.now) × (b + BITS ≤ length other.now) × (q + N ≤ length p.old) }
     ensures { p.new ≡ run (share_turn BITS masks.now other.now b q) N p.old }
 {
+    // stays: share i has its masks at i * BITS and its place in p at q + i, so that one number finds both
     for i in 0..N {
         p[q + i] = times::<BITS>(other, b, masks, i * BITS);
     }
@@ -49,6 +51,7 @@ fn products<const BITS: usize, const N: usize>(
     requires { (N * BITS ≤ length masks.now) × (count * BITS ≤ length other.now) × (count * N ≤ length p.old) }
     ensures { p.new ≡ all_products BITS N count masks.now other.now p.old }
 {
+    // stays: a word's place in p and its doubles' in other are g times N and g times BITS; after chunks_mut a proof knows no element of p
     for g in 0..count {
         word_products::<BITS, N>(p, g * N, other, g * BITS, masks);
     }
@@ -68,6 +71,7 @@ fn add_own<const N: usize>(row: &mut [u64], g: usize, p: &[u64], q: usize)
     requires { (N ≤ 4) × (g + N ≤ length row.old) × (q + N * N ≤ length p.now) }
     ensures { row.new ≡ run (own_turn N g p.now q) N row.old }
 {
+    // stays: share i stands at g + i, and its own term N + 1 times i on
     for i in 0..N {
         row[g + i] ^= p[q + i * (N + 1)];
     }
@@ -87,6 +91,7 @@ fn add_pairs_of<const N: usize>(
     requires { (N ≤ 4) × (i < N) × (hidden ≡ 0) × (g + N ≤ length row.old) × (q + N * N ≤ length p.now) × (k + (N - suc i) ≤ length z.now) }
     ensures { row.new ≡ run (pair_turn N g p.now q z.now k i) (N - suc i) row.old }
 {
+    // stays: a pair's number finds its draw, its two terms and its two shares, which are in three slices
     for v in 0..N - 1 - i {
         let j = i + 1 + v;
         let e = q + j * N + i;
@@ -124,6 +129,7 @@ fn combine<const N: usize>(words: usize, hidden: u64, row: &mut [u64], p: &[u64]
     ensures { row.new ≡ all_sums N words p.now z.now row.old }
 {
     let pairs = sharing::pair_count(N);
+    // stays: word u has its shares, products and draws at three steps; after chunks_mut a proof knows no element of the row
     for u in 0..words {
         add_own::<N>(row, u * N, p, u * (N * N));
         add_pairs::<N>(hidden, row, u * N, p, u * (N * N), z, u * pairs);

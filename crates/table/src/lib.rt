@@ -68,6 +68,7 @@ pub fn join<S: Sign>(f: u64, s: &mut [u8], v: &[u8])
     requires { length v.now ≡ length s.old }
     ensures { s.new ≡ joined (signed (field_of f) S.minus) s.old v.now }
 {
+    // stays: v by its index and no `zip`: a proof knows no element of s once a loop over a `zip` with its `iter_mut` is over.
     for (i, x) in s.iter_mut().enumerate() {
         *x = S::apply(f, *x, v[i]);
     }
@@ -75,6 +76,7 @@ pub fn join<S: Sign>(f: u64, s: &mut [u8], v: &[u8])
 
 // A row from some column on: row += or -= Product(factor, other row), as if column by column. Mix and Clear spend their time here. What
 // is behind the columns of the other row is room to work in.
+// stays: f and n here and below, and no shape: a row is of no table, and the code of docs/OBJECT.md, `join_part`, is that of a row's columns alone.
 fn join_row<S: Sign>(
     f: u64,
     n: usize,
@@ -175,6 +177,7 @@ pub fn mix(shape: Shape, table: &mut [u8], r: usize, j: usize, k: usize, mask: &
     let n = shape.shares;
     let pivot = cell(shape, r, j);
     let d = flag::flag_draws(f, n);
+    // stays: without a heap a copy of n shares is the front of an array of four, here and in check, clear, open and lift_row.
     let mut flag = [0u8; 4];
     flag::zero_flag(f, &mut flag[..n], &table[pivot..pivot + n], mask);
     join_rows::<Plus>(shape, table, &flag[..n], r, k, j, &mask[d..]);
@@ -202,6 +205,7 @@ fn refresh_columns<const N: usize>(f: u64, columns: usize, row: &mut [u8], mask:
     requires row_len { (length row.old ≡ columns * N) × (columns * (N - 1) ≤ length mask.now) }
     ensures { row.new ≡ refresh_row (field_of f) N columns mask.now row.old }
 {
+    // stays: no `chunks_exact_mut`: a proof knows no share of the row once a loop over its chunks is over.
     for u in 0..columns {
         let p = u * N;
         let d = u * (N - 1);
@@ -328,12 +332,14 @@ pub fn lift(shape: Shape, table: &mut [u8], r: usize, j: usize, x: u8)
     requires inside { Inside shape.rows shape.columns r j }
     ensures { table.new ≡ lift shape.field shape.shares shape.columns r j x table.old }
 {
+    // stays: as in refresh_columns, no `chunks_exact_mut` for the rows.
     for i in 0..r - 1 {
         lift_row(shape, table, j, x, i);
     }
 }
 
 // The costs of the steps, in 01's closed form; l is the number of columns from j on.
+// stays: n and its two bounds in each: a shape would ask more of course and pattern, which have no table at hand.
 pub fn mix_cost(f: u64, n: usize, l: usize) -> usize
     requires { (2 ≤ n) × (n ≤ 4) × (l ≤ most_columns) }
     ensures { (result ≡ mix_cost f n l) × (result ≤ most_draws) }

@@ -8,17 +8,16 @@ ghost use Rattle.sharing.specs.Run.{tab};
 ghost use Rattle.sharing.specs.Rules.{draw_at};
 ghost use Rattle.sharing.specs.Bounds.{most_entries};
 ghost use Rattle.table.specs.Layout.{Shaped, table_bytes};
-ghost use Rattle.table.specs.Steps.{column_turn};
 ghost use Rattle.course.specs.StepList.{Sizes, in_list, column_of, cost_in, mask_cost, nonzero_cost, full_mask, full_nonzero};
 ghost use Rattle.walk.specs.Act.{held, Row, OtherRow, step_opens, step_leaves, opened, acted};
 ghost use Rattle.walk.specs.Walk.{leaves, solved};
-ghost use Rattle.walk.specs.Dealing.{dealt_entry, deal_turn, dealt, gathered};
+ghost use Rattle.walk.specs.Dealing.{dealt_entry, dealt, gathered};
 
 use course::{Counts, Order, Place, Progress, Step};
 use table::Shape;
 
 // How a solve ends, with the steps, mask draws and nonzero draws taken.
-#[derive(Clone, Copy)]
+#[derive(Clone, Copy, Debug, PartialEq, Eq)]
 pub enum Ending {
     Solved(Counts),
     Stopped(u64, Counts),
@@ -105,34 +104,32 @@ pub fn solve(o: Order, table: &mut [u8], solution: &mut [u8], mask: &[u8], nonze
 {
     let mut p = Progress::start(o);
     let mut steps: usize = 0;
+    // stays: the loop of wide_walk::solve is much the same, but what the two walks ask, take and leave at the end are two definitions of specs/:
+    // one walk over a trait would need a ghost member for each, and laws for how they hang together, for some ten lines that it saves.
     loop {
-        let q = p.place;
-        let at = p.mask as usize;
-        let at2 = p.nonzero as usize;
-        match q {
+        let counts = Counts {
+            steps,
+            mask: p.mask as usize,
+            nonzero: p.nonzero as usize,
+        };
+        match p.place {
             Place::At(s) => {
-                let x = act(o, s, table, solution, &mask[at..], &nonzero[at2..]);
+                let x = act(
+                    o,
+                    s,
+                    table,
+                    solution,
+                    &mask[counts.mask..],
+                    &nonzero[counts.nonzero..],
+                );
                 p = p.next(s, x);
                 steps += 1;
             }
             Place::Stopped(j) => {
                 sharing::wipe(solution);
-                return Ending::Stopped(
-                    j,
-                    Counts {
-                        steps: steps,
-                        mask: at,
-                        nonzero: at2,
-                    },
-                );
+                return Ending::Stopped(j, counts);
             }
-            Place::Done => {
-                return Ending::Solved(Counts {
-                    steps: steps,
-                    mask: at,
-                    nonzero: at2,
-                });
-            }
+            Place::Done => return Ending::Solved(counts),
         }
     }
 }
@@ -142,8 +139,8 @@ fn draw_shares(f: u64, e: &mut [u8], mask: &[u8])
     requires { length e.old ≤ length mask.now }
     ensures { e.new ≡ tab (length e.old) (draw_at (field_of f) mask.now) }
 {
-    for s in 0..e.len() {
-        e[s] = field::draw(f, mask[s]);
+    for (s, x) in e.iter_mut().enumerate() {
+        *x = field::draw(f, mask[s]);
     }
 }
 
@@ -157,37 +154,17 @@ fn deal_entry(f: u64, e: &mut [u8], v: u8, mask: &[u8])
     e[0] = field::sub(f, v, d);
 }
 
-// Entry number i, whose n bytes begin at p and whose draws at d.
-fn deal_turn(
-    f: u64,
-    n: usize,
-    table: &mut [u8],
-    values: &[u8],
-    mask: &[u8],
-    i: usize,
-    p: usize,
-    d: usize,
-)
-    requires le_n { (2 ≤ n) × (p ≡ i * n) × (d ≡ i * (n - 1)) × (i + 1 ≤ length values.now) }
-    requires n_in_bounds { (p + n ≤ length table.old) × (d + (n - 1) ≤ length mask.now) }
-    ensures { table.new ≡ column_turn n (deal_turn f n values.now mask.now) i table.old }
-{
-    let e = p + n;
-    deal_entry(f, &mut table[p..e], values[i], &mask[d..]);
-}
-
 // Deals all values, in row order.
 pub fn deal(f: u64, n: usize, table: &mut [u8], values: &[u8], mask: &[u8])
     requires le_n { (2 ≤ n) × (n ≤ 4) × (length values.now ≤ most_entries) }
     requires table_len { (length table.old ≡ length values.now * n) × (length values.now * (n - 1) ≤ length mask.now) }
     ensures { table.new ≡ dealt f n (length values.now) values.now mask.now table.old }
 {
-    let mut p: usize = 0;
-    let mut d: usize = 0;
-    for i in 0..values.len() {
-        deal_turn(f, n, table, values, mask, i, p, d);
-        p += n;
-        d += n - 1;
+    // stays: no `chunks_exact_mut`: once its borrows are over, a proof knows the length of the table and none of its bytes.
+    for (i, v) in values.iter().enumerate() {
+        let p = i * n;
+        let d = i * (n - 1);
+        deal_entry(f, &mut table[p..p + n], *v, &mask[d..]);
     }
 }
 
@@ -197,10 +174,9 @@ pub fn gather(f: u64, n: usize, table: &[u8], values: &mut [u8])
     requires table_len { length table.now ≡ length values.old * n }
     ensures { values.new ≡ gathered f n (length values.old) table.now }
 {
-    let mut p: usize = 0;
-    for i in 0..values.len() {
-        let e = p + n;
-        values[i] = sharing::sum(f, &table[p..e]);
-        p = e;
+    // stays: no `zip` with `chunks_exact`: once such a loop is over, a proof knows the length of the values and none of them.
+    for (i, v) in values.iter_mut().enumerate() {
+        let p = i * n;
+        *v = sharing::sum(f, &table[p..p + n]);
     }
 }

@@ -53,6 +53,7 @@ pub fn take_row(n: usize, columns: usize, bytes: &mut [u8], row: &[u64])
     requires { (2 ≤ n) × (n ≤ 4) × (columns ≤ most_columns) × (length bytes.old ≡ columns * n) × (words_of columns * n ≤ length row.now) }
     ensures { bytes.new ≡ bytes_of n columns row.now }
 {
+    // stays: the bytes are lent column by column, and after chunks_mut a proof knows no element of them
     for e in (0..columns).rev() {
         let p = (columns - 1 - e) * n;
         entry(n, row, e, &mut bytes[p..p + n]);

@@ -17,7 +17,7 @@ use Rattle.table.proofs.Cells.{column_in}
 use Rattle.table.proofs.Elements.{part_below}
 use Rattle.table.proofs.Columns.{columns_ext}
 use Rattle.word.specs.Rows.{byte_of, bytes_of, Dealt}
-use Rattle.word_table.specs.Table.{row_words, table_of, LoadedRow}
+use Rattle.word_table.specs.Table.{row_words, table_of}
 use Rattle.word_table.proofs.Standing.{list_ext, bytes-length, bytes-at, table-length, table-row}
 use Rattle.word_table.proofs.Entering.{twice_back}
 
@@ -38,6 +38,12 @@ dealt-bytes n columns bytes row l small D =
         ∙ pick_true (ltb (columns - 1 - u) columns) _ 0 (lt→ltb (columns - 1 - u) columns (omega arith))
         ∙ ap (λ (k : ℕ). get_or bytes (k * n + s) 0 % 256) (twice_back hu)
         ∙ mod-eq_of_lt (small.at (u * n + s))
+
+-- row i, from 0, is now that of the bytes, and those before it stayed
+pub record LoadedRow (n w i : ℕ) (t words new : List ℕ) : Type 0 where
+  pub size : length new ≡ length words
+  pub bytes : bytes_of n w (part (row_words n w) (i * row_words n w) new) ≡ part (w * n) (i * (w * n)) t
+  pub beside : (v : ℕ) → v < i → part (row_words n w) (v * row_words n w) new ≡ part (row_words n w) (v * row_words n w) words
 
 -- one row dealt
 pub loaded_row : (n w i : ℕ) (t words row : List ℕ) → length row ≡ row_words n w → i * row_words n w + row_words n w ≤ length words → i * (w * n) + w * n ≤ length t → Below 256 t

@@ -13,9 +13,13 @@ use Rattle.table.proofs.Parts.{part-lent, put-lent, part_same, part-before, put-
 use Rattle.table.proofs.Cells.{column_in}
 use Rattle.table.proofs.Columns.{columns_ext}
 use Rattle.word.specs.Rows.{bytes_of}
-use Rattle.word_table.specs.Table.{row_words, table_of, store_turn}
+use Rattle.word_table.specs.Table.{row_words, table_of}
 use Rattle.word_table.proofs.Standing.{bytes-length, table-length, table-row}
 use Rattle.word_table.proofs.Sizes.{table-rows}
+
+-- row i of the bytes, from 0, becomes that of the words
+unfoldable pub store_turn : ℕ → ℕ → List ℕ → ℕ → List ℕ → List ℕ
+store_turn n w words i t = put (w * n) (i * (w * n)) (bytes_of n w (part (row_words n w) (i * row_words n w) words)) t
 
 module _ (n w rows : ℕ) (words : List ℕ) where
   -- the first k rows are as the words have them

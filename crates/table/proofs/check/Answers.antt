@@ -1,9 +1,9 @@
 -- `table::check` meets its contract: the part of n places of the local array holds the flag of the entry, which is opened by the draws behind it.
 -- Assumes nothing.
-use mathlib.Core.Path.{◌≡◌, sym, ◌∙◌}
+use mathlib.Core.Path.{◌≡◌, ◌∙◌}
 use Prim.Native.Nat.{◌+◌, ◌≤◌}
 use native.Mathlib.Omega.{arith}
-use lib.ListN.{length, length-append, length-drop}
+use lib.ListN.{length, length-drop}
 use lib.Seq.{length-take-le, take_at}
 use Rattle.sharing.specs.Run.{pairs}
 use Rattle.sharing.proofs.Loops.{rest}
@@ -12,9 +12,6 @@ use Rattle.table.proofs.Parts.{part-lent}
 use Rattle.table.proofs.Cells.{cell_in, entry_length}
 use Rattle.table.proofs.Draws.{check_cost_is}
 use Rattle.table.proofs.check.Goals as goal
-
-pub slice_bounds-zero_flag-end : goal.slice_bounds-zero_flag-end
-slice_bounds-zero_flag-end c = sym (length-take-le _ _ (omega arith))
 
 pub overflow_add-p : goal.overflow_add-p
 overflow_add-p c =
@@ -34,18 +31,6 @@ zero_flag-requires c =
     omega (arith, c.flag_draws-d.ensures.0, check_cost_is c.args.shape.field c.args.shape.shares, c.requires.draws) in
     rw (part-lent, c.cell-p.ensures, entry_length _ _ _ _ c.requires.shaped.bytes c.requires.inside)
     (omega arith, omega arith, length-take-le _ _ (omega arith), omega (arith, room, c.flag_draws-d.ensures.0))
-
-pub slice_bounds-flag-end-2 : goal.slice_bounds-flag-end-2
-slice_bounds-flag-end-2 c =
-    let flagged : length c.zero_flag.new.out ≡ c.args.shape.shares =
-    c.zero_flag.auto.out ∙ length-take-le _ _ (omega arith) in
-    simp length-append (omega (arith, flagged))
-
-pub slice_bounds-opening-end : goal.slice_bounds-opening-end
-slice_bounds-opening-end c =
-    let flagged : length c.zero_flag.new.out ≡ c.args.shape.shares =
-    c.zero_flag.auto.out ∙ length-take-le _ _ (omega arith) in
-    let e = flagged in rw (take_at _ _ _ e) (sym e)
 
 pub slice_bounds-opening-count : goal.slice_bounds-opening-count
 slice_bounds-opening-count c =

@@ -1,33 +1,14 @@
 -- `table::join_row` meets its contract: the other row becomes a row of Products, and these join the row.
 -- Assumes nothing.
-use mathlib.Core.Path.{sym, ap, ◌∙◌}
-use Prim.Native.Nat.{ℕ, ◌≤◌}
+use mathlib.Core.Path.{ap, ◌∙◌}
+use Prim.Native.Nat.{ℕ}
 use native.Mathlib.Omega.{arith}
-use lib.ListN.{length, take}
-use lib.Seq.{length-take-le}
+use lib.ListN.{take}
 use Rattle.field.specs.Field.{field_of}
 use Rattle.sharing.specs.Lists.{joined}
 use Rattle.table.specs.Steps.{signed}
-use Rattle.table.proofs.Rows.{bytes_small, products_join}
+use Rattle.table.proofs.Rows.{products_join}
 use Rattle.table.proofs.join_row.Goals as goal
-
-pub slice_bounds-join-end : goal.slice_bounds-join-end
-slice_bounds-join-end g c =
-    let long : length c.args.row.now ≤ length c.product.new.row =
-    omega (arith, c.product.auto.row, bytes_small {n = c.args.n} {columns = c.args.columns} c.requires.le_n.1 c.requires.le_n.3) in
-    long
-
-pub slice_bounds-join-end-2 : goal.slice_bounds-join-end-2
-slice_bounds-join-end-2 g c =
-    let long : length c.args.row.now ≤ length c.product.new.row =
-    omega (arith, c.product.auto.row, bytes_small {n = c.args.n} {columns = c.args.columns} c.requires.le_n.1 c.requires.le_n.3) in
-    sym (length-take-le _ _ long)
-
-pub join-requires : goal.join-requires
-join-requires g c =
-    let long : length c.args.row.now ≤ length c.product.new.row =
-    omega (arith, c.product.auto.row, bytes_small {n = c.args.n} {columns = c.args.columns} c.requires.le_n.1 c.requires.le_n.3) in
-    length-take-le _ _ long
 
 pub returns : goal.returns
 returns g c =

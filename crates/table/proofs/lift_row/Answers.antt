@@ -1,18 +1,14 @@
 -- `table::lift_row` meets its contract: a copy of T[i+1,j] is multiplied by x, and taken from the last column's entry.
 -- Assumes nothing.
-use mathlib.Core.Path.{◌≡◌, ◌∙◌, sym}
+use mathlib.Core.Path.{◌≡◌, ◌∙◌}
 use Prim.Native.Nat.{◌+◌, ◌≤◌}
 use native.Mathlib.Omega.{arith}
-use lib.ListN.{length, length-append}
+use lib.ListN.{length}
 use lib.Seq.{length-take-le, take_at}
 use Rattle.table.specs.Steps.{signed, lift_turn}
 use Rattle.table.proofs.Parts.{part-lent, put-lent}
 use Rattle.table.proofs.Cells.{in_row, cell_in}
-use Rattle.table.proofs.Lent.{lent_length}
 use Rattle.table.proofs.lift_row.Goals as goal
-
-pub slice_bounds-copy_into-end : goal.slice_bounds-copy_into-end
-slice_bounds-copy_into-end c = sym (length-take-le _ _ (omega arith))
 
 pub overflow_add-o : goal.overflow_add-o
 overflow_add-o c =
@@ -26,24 +22,6 @@ slice_bounds-copy_into-end-2 c =
     omega (arith, cell_in c.args.shape.shares c.requires.inside) in
     omega (arith, within-o)
 
-pub copy_into-requires : goal.copy_into-requires
-copy_into-requires c =
-    let within-o : c.cell-o.result + c.args.shape.shares ≤ length c.args.table.now =
-    omega (arith, cell_in c.args.shape.shares c.requires.inside) in
-    rw (lent_length _ _ _ within-o) (length-take-le _ _ (omega arith))
-
-pub slice_bounds-copy-end-2 : goal.slice_bounds-copy-end-2
-slice_bounds-copy-end-2 c =
-    let copied : length c.copy_into.new.dst ≡ c.args.shape.shares =
-    c.copy_into.auto.dst ∙ length-take-le _ _ (omega arith) in
-    simp length-append (omega (arith, copied))
-
-pub slice_bounds-scale_opened-end : goal.slice_bounds-scale_opened-end
-slice_bounds-scale_opened-end c =
-    let copied : length c.copy_into.new.dst ≡ c.args.shape.shares =
-    c.copy_into.auto.dst ∙ length-take-le _ _ (omega arith) in
-    let e = copied in rw (take_at _ _ _ e) (sym e)
-
 pub overflow_add-p : goal.overflow_add-p
 overflow_add-p c =
     let within-p : c.cell-p.result + c.args.shape.shares ≤ length c.args.table.now =
@@ -55,32 +33,6 @@ slice_bounds-join-end c =
     let within-p : c.cell-p.result + c.args.shape.shares ≤ length c.args.table.now =
     omega (arith, cell_in c.args.shape.shares (in_row c.requires.inside c.args.shape.columns (omega arith) (omega arith))) in
     omega (arith, within-p)
-
-pub slice_bounds-copy-end-3 : goal.slice_bounds-copy-end-3
-slice_bounds-copy-end-3 c =
-    let copied : length c.copy_into.new.dst ≡ c.args.shape.shares =
-    c.copy_into.auto.dst ∙ length-take-le _ _ (omega arith) in
-    let times-x : length c.scale_opened.new.s ≡ c.args.shape.shares =
-    let e = copied in rw (take_at _ _ _ e) at c.scale_opened.auto.s ∙ e in
-    simp length-append (omega (arith, times-x))
-
-pub slice_bounds-join-end-2 : goal.slice_bounds-join-end-2
-slice_bounds-join-end-2 c =
-    let copied : length c.copy_into.new.dst ≡ c.args.shape.shares =
-    c.copy_into.auto.dst ∙ length-take-le _ _ (omega arith) in
-    let times-x : length c.scale_opened.new.s ≡ c.args.shape.shares =
-    let e = copied in rw (take_at _ _ _ e) at c.scale_opened.auto.s ∙ e in
-    let e = times-x in rw (take_at _ _ _ e) (sym e)
-
-pub join-requires : goal.join-requires
-join-requires c =
-    let within-p : c.cell-p.result + c.args.shape.shares ≤ length c.args.table.now =
-    omega (arith, cell_in c.args.shape.shares (in_row c.requires.inside c.args.shape.columns (omega arith) (omega arith))) in
-    let copied : length c.copy_into.new.dst ≡ c.args.shape.shares =
-    c.copy_into.auto.dst ∙ length-take-le _ _ (omega arith) in
-    let times-x : length c.scale_opened.new.s ≡ c.args.shape.shares =
-    let e = copied in rw (take_at _ _ _ e) at c.scale_opened.auto.s ∙ e in
-    rw (take_at _ _ _ times-x, lent_length _ _ _ within-p) times-x
 
 pub returns : goal.returns
 unfolding lift_turn signed

@@ -26,38 +26,32 @@ pub join_rows-requires : goal.join_rows-requires
 unfolding clear_cost
 join_rows-requires c =
     let q = c.requires in
-    let copied : length c.entry.new.out ≡ c.args.n = c.entry.auto.out ∙ length-take-le _ _ (omega arith) in
-    rw (take_at _ _ _ copied) (record {
-      bounded = q.bounded;
-      inside = (q.inside.1, q.inside.0);
-      w_in_bounds = (q.w_in_bounds.0, copied, q.w_in_bounds.1, q.w_in_bounds.2);
-      room = (q.room, told_16 c.args.f _ c.if-f-eq16.true);
-      below = q.below;
-    })
+    let s = c.args.shape in
+    let copied : length c.entry.new.out ≡ s.shares = c.entry.auto.out ∙ length-take-le _ _ (omega arith) in
+    rw (take_at _ _ _ copied)
+    (record { worded = q.worded; inside = (q.inside.1, q.inside.0); draws = (copied, q.draws); room = ((let r = q.room in record { for_other = r.for_other; for_draws = r.for_draws; for_products = r.for_products; for_masks = r.for_masks; none_hidden = r.none_hidden }), told_16 s.field _ c.if-shape-eq16.true); below = q.below })
 
-pub join_rows-requires-else-f-eq16 : goal.join_rows-requires-else-f-eq16
+pub join_rows-requires-else-shape-eq16 : goal.join_rows-requires-else-shape-eq16
 unfolding clear_cost
-join_rows-requires-else-f-eq16 c =
+join_rows-requires-else-shape-eq16 c =
     let q = c.requires in
-    let copied : length c.entry.new.out ≡ c.args.n = c.entry.auto.out ∙ length-take-le _ _ (omega arith) in
-    rw (take_at _ _ _ copied) (record {
-      bounded = q.bounded;
-      inside = (q.inside.1, q.inside.0);
-      w_in_bounds = (q.w_in_bounds.0, copied, q.w_in_bounds.1, q.w_in_bounds.2);
-      room = (q.room, told_256 c.args.f _ c.if-f-eq16.false);
-      below = q.below;
-    })
+    let s = c.args.shape in
+    let copied : length c.entry.new.out ≡ s.shares = c.entry.auto.out ∙ length-take-le _ _ (omega arith) in
+    rw (take_at _ _ _ copied)
+    (record { worded = q.worded; inside = (q.inside.1, q.inside.0); draws = (copied, q.draws); room = ((let r = q.room in record { for_other = r.for_other; for_draws = r.for_draws; for_products = r.for_products; for_masks = r.for_masks; none_hidden = r.none_hidden }), told_256 s.field _ c.if-shape-eq16.false); below = q.below })
 
-pub returns-then-f-eq16 : goal.returns-then-f-eq16
+pub returns-then-shape-eq16 : goal.returns-then-shape-eq16
 unfolding clear
-returns-then-f-eq16 c =
+returns-then-shape-eq16 c =
     let x = c.args in
-    let copied : length c.entry.new.out ≡ x.n = c.entry.auto.out ∙ length-take-le _ _ (omega arith) in
-    rw (take_at _ _ _ copied, c.entry.ensures) at c.join_rows.ensures ∙ join_rows_sign x.f x.n x.w x.k x.r x.j _ x.mask.now _
+    let s = x.shape in
+    let copied : length c.entry.new.out ≡ s.shares = c.entry.auto.out ∙ length-take-le _ _ (omega arith) in
+    rw (take_at _ _ _ copied, c.entry.ensures) at c.join_rows.ensures ∙ join_rows_sign s.field s.shares s.columns x.k x.r x.j _ x.mask.now _
 
-pub returns-else-f-eq16 : goal.returns-else-f-eq16
+pub returns-else-shape-eq16 : goal.returns-else-shape-eq16
 unfolding clear
-returns-else-f-eq16 c =
+returns-else-shape-eq16 c =
     let x = c.args in
-    let copied : length c.entry.new.out ≡ x.n = c.entry.auto.out ∙ length-take-le _ _ (omega arith) in
-    rw (take_at _ _ _ copied, c.entry.ensures) at c.join_rows-else-f-eq16.ensures ∙ join_rows_sign x.f x.n x.w x.k x.r x.j _ x.mask.now _
+    let s = x.shape in
+    let copied : length c.entry.new.out ≡ s.shares = c.entry.auto.out ∙ length-take-le _ _ (omega arith) in
+    rw (take_at _ _ _ copied, c.entry.ensures) at c.join_rows-else-shape-eq16.ensures ∙ join_rows_sign s.field s.shares s.columns x.k x.r x.j _ x.mask.now _

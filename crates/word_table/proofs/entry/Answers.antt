@@ -18,4 +18,6 @@ left n w r words size e h = ap (λ (row : List ℕ). tab n (byte_of n row e)) (p
 pub returns : goal.returns
 returns c =
     let x = c.args in
-    c.entry.ensures ∙ left x.n x.w x.r x.words.now c.row_words-size.result (x.w - x.j) c.row_words-size.ensures.0 ∙ sym (entry_of x.n x.w x.rows x.words.now c.requires.inside)
+    let s = x.shape in
+    c.entry.ensures ∙ left s.shares s.columns x.r x.words.now c.row_words-size.result (s.columns - x.j) c.row_words-size.ensures.0
+    ∙ sym (entry_of s.shares s.columns s.rows x.words.now c.requires.inside)

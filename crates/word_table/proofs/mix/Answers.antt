@@ -14,38 +14,36 @@ use Rattle.word_table.specs.Table.{by_one}
 use Rattle.word_table.proofs.Flagging.{flag_bits}
 use Rattle.word_table.proofs.mix.Goals as goal
 
-pub pivot_flag-requires-clause-w_in_bounds : goal.pivot_flag-requires-clause-w_in_bounds
-pivot_flag-requires-clause-w_in_bounds c =
-    let x = c.args in (
-      c.requires.w_in_bounds.0,
-      length-take-le _ _ (omega arith),
-      omega (arith, c.flag_draws-d.ensures.0, mix_cost_is x.f x.n (columns_from x.w x.j), c.requires.w_in_bounds.1),
-    )
+pub pivot_flag-requires-clause-draws : goal.pivot_flag-requires-clause-draws
+pivot_flag-requires-clause-draws c =
+    let s = c.args.shape in
+    (length-take-le _ _ (omega arith), omega (arith, c.flag_draws-d.ensures.0, mix_cost_is s.field s.shares (columns_from s.columns c.args.j), c.requires.draws))
 
 pub slice_bounds-join_rows-count : goal.slice_bounds-join_rows-count
 slice_bounds-join_rows-count c =
-    let x = c.args in omega (arith, c.flag_draws-d.ensures.0, mix_cost_is x.f x.n (columns_from x.w x.j), c.requires.w_in_bounds.1)
+    let s = c.args.shape in omega (arith, c.flag_draws-d.ensures.0, mix_cost_is s.field s.shares (columns_from s.columns c.args.j), c.requires.draws)
 
 pub slice_bounds-join_rows-start : goal.slice_bounds-join_rows-start
 slice_bounds-join_rows-start c =
-    let x = c.args in omega (arith, c.flag_draws-d.ensures.0, mix_cost_is x.f x.n (columns_from x.w x.j), c.requires.w_in_bounds.1)
+    let s = c.args.shape in omega (arith, c.flag_draws-d.ensures.0, mix_cost_is s.field s.shares (columns_from s.columns c.args.j), c.requires.draws)
 
 pub join_rows-requires : goal.join_rows-requires
 join_rows-requires c =
     let x = c.args in
-    let room : c.flag_draws-d.result + columns_from x.w x.j * pairs x.n ≤ length x.mask.now =
-    omega (arith, c.flag_draws-d.ensures.0, mix_cost_is x.f x.n (columns_from x.w x.j), c.requires.w_in_bounds.1) in
-    let flagged : length c.pivot_flag.new.flag ≡ x.n = c.pivot_flag.auto.flag ∙ length-take-le _ _ (omega arith) in
+    let s = x.shape in
+    let room : c.flag_draws-d.result + columns_from s.columns x.j * pairs s.shares ≤ length x.mask.now =
+    omega (arith, c.flag_draws-d.ensures.0, mix_cost_is s.field s.shares (columns_from s.columns x.j), c.requires.draws) in
+    let flagged : length c.pivot_flag.new.flag ≡ s.shares = c.pivot_flag.auto.flag ∙ length-take-le _ _ (omega arith) in
     rw (take_at _ _ _ flagged) (record {
-      bounded = c.requires.bounded;
+      worded = c.requires.worded;
       inside = c.requires.inside;
-      w_in_bounds = (c.requires.w_in_bounds.0, flagged, rest_room _ _ x.mask.now room, c.requires.w_in_bounds.2);
-      room = (c.requires.room, by_one (rw c.pivot_flag.ensures (flag_bits x.f x.mask.now _)));
+      draws = (flagged, rest_room _ _ x.mask.now room);
+      room = ((let r = c.requires.room in record { for_other = r.for_other; for_draws = r.for_draws; for_products = r.for_products; for_masks = r.for_masks; none_hidden = r.none_hidden }), by_one (rw c.pivot_flag.ensures (flag_bits s.field x.mask.now _)));
       below = c.requires.below;
     })
 
 pub returns : goal.returns
 unfolding mix
 returns c =
-    let flagged : length c.pivot_flag.new.flag ≡ c.args.n = c.pivot_flag.auto.flag ∙ length-take-le _ _ (omega arith) in
+    let flagged : length c.pivot_flag.new.flag ≡ c.args.shape.shares = c.pivot_flag.auto.flag ∙ length-take-le _ _ (omega arith) in
     rw (take_at _ _ _ flagged, rest, c.pivot_flag.ensures, c.flag_draws-d.ensures.0) at c.join_rows.ensures

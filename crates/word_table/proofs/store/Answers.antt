@@ -9,20 +9,20 @@ pub loop-r-init : goal.loop-r-init
 loop-r-init c = run_none _ _
 
 pub slice_bounds-take_row-end : goal.slice_bounds-take_row-end
-slice_bounds-take_row-end c = let x = c.args in omega (arith, bytes_in x.n x.w x.rows {i = c.loop-r.r} c.requires.table_len.0 (omega arith))
+slice_bounds-take_row-end c = omega (arith, bytes_in c.args.shape {i = c.loop-r.r} c.requires.shaped.bytes (omega arith))
 
 pub slice_bounds-take_row-end-in-loop-r : goal.slice_bounds-take_row-end-in-loop-r
 slice_bounds-take_row-end-in-loop-r c =
-    let x = c.args in
-    omega (arith, row_in x.n x.w x.rows {i = c.loop-r.r} c.row_words-size.ensures.0 c.requires.table_len.1 (omega arith))
+    omega (arith, row_in c.args.shape {i = c.loop-r.r} c.row_words-size.ensures.0 c.requires.worded.room (omega arith))
 
 pub loop-r-preserved : goal.loop-r-preserved
 loop-r-preserved c =
     let l = c.loop-r in
-    let x = c.args in
-    run-next _ _ _ _ _ l.invariant (rw c.take_row.ensures (stored_part x.n x.w l.r c.row_words-size.result x.words.now l.table c.row_words-size.ensures.0))
+    let s = c.args.shape in
+    run-next _ _ _ _ _ l.invariant
+    (rw c.take_row.ensures (stored_part s.shares s.columns l.r c.row_words-size.result c.args.words.now l.table c.row_words-size.ensures.0))
 
 pub returns : goal.returns
 returns c =
-    let x = c.args in
-    run_done _ _ x.rows _ _ c.loop-r.invariant (omega arith) ∙ stored x.n x.w x.rows x.words.now x.table.now c.requires.table_len.0
+    let s = c.args.shape in
+    run_done _ _ s.rows _ _ c.loop-r.invariant (omega arith) ∙ stored s.shares s.columns s.rows c.args.words.now c.args.table.now c.requires.shaped.bytes

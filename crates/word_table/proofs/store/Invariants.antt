@@ -1,7 +1,7 @@
 -- The table is a run of the rows so far.
 use mathlib.Core.Path.{◌≡◌}
 use Rattle.sharing.specs.Run.{run}
-use Rattle.word_table.specs.Table.{store_turn}
+use Rattle.word_table.proofs.Storing.{store_turn}
 use Rattle.word_table.proofs.store.Given as goal
 
 abbrev pub invariant-loop-r : goal.invariant-loop-r
