@@ -8,7 +8,7 @@ use native.Mathlib.Numerals.{add-one, sub-one}
 use native.Mathlib.Omega.{arith}
 use native.Mathlib.Decide.{ℕ_discrete, dec_lt}
 use lib.ListN.{length, get_or, length-append, get_or-append}
-use lib.Seq.{ext_get_or, get_or-append_seam}
+use lib.Seq.{ext_get_or}
 use Rattle.field.specs.Field.{Ops, Field}
 use Rattle.sharing.specs.Run.{tab}
 use Rattle.sharing.proofs.Pairs.{tab-length, tab-at}
@@ -16,7 +16,7 @@ use Rattle.algebra.specs.Linear.{Table, Combines, Apart}
 use Rattle.algebra.specs.Wide.{pivot_at, Passed, IsPattern}
 use Rattle.algebra.proofs.Outcome.{Alike, combines_alike, apart_alike}
 use Rattle.algebra.proofs.Echelon.{Column, chosen, passed, ech_pivot, ech_rises}
-use Rattle.algebra.proofs.Column.{Shape, Cleared, shape_ext, shape_column, cleared_taken}
+use Rattle.algebra.proofs.Column.{Shape, shape_column}
 
 -- ---- the list
 
@@ -28,9 +28,6 @@ module _ (ps : List ℕ) (c : ℕ) where
   pub pivot_kept : (i : ℕ) → 1 ≤ i → i ≤ length ps → pivot_at (ps ++ (c ∷ [])) i ≡ pivot_at ps i
   unfolding pivot_at
   pivot_kept i a b = get_or-append ps (c ∷ []) 0 (i - 1) (omega arith)
-
-  pub pivot_new : pivot_at (ps ++ (c ∷ [])) (suc (length ps)) ≡ c
-  pivot_new = pivot_at_lem (ps ++ (c ∷ [])) (length ps) ∙ get_or-append_seam ps c [] 0
 
   pub length_grown : length (ps ++ (c ∷ [])) ≡ suc (length ps)
   length_grown = length-append ps (c ∷ []) ∙ add-one (length ps)
@@ -140,14 +137,6 @@ module _ (F : Ops) (m : ℕ) (T : Table) {C : ℕ} where
 -- ---- from elimination
 
 module _ (F : Ops) (L : Field F) (m w : ℕ) {T U : Table} where
-  -- the column's pivot is taken, and listed
-  pub cleared_listed : (ps : List ℕ) {j : ℕ} → suc (length ps) ≤ m → suc j ≤ w → Cleared F L m w T (pivot_at ps) (length ps) j m U
-      → Shape F L m w T (pivot_at (ps ++ (suc j ∷ []))) (length (ps ++ (suc j ∷ []))) (suc j) U
-  cleared_listed ps {j} l b h =
-      rw (length_grown ps (suc j))
-      (cleared_taken F L m w l b (pivot_new ps (suc j))
-      (record { shape = shape_ext F L m w (pivot_kept ps (suc j)) h.shape; unit = h.unit; below = h.below }))
-
   -- the pivots are the pattern of the columns that were worked on
   pub shape_pattern : {ps : List ℕ} {p : ℕ → ℕ} {k j : ℕ} → j ≤ w → Lists ps p k → Shape F L m w T p k j U → IsPattern F m T j ps
   shape_pattern {ps} {p} {k} {j} l is h =

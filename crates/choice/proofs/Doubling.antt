@@ -36,10 +36,10 @@ doubled-sum_256 = plus (after (low 8) (shifted 1)) (after (lowest_times 27) (hig
 
 -- ---- what the code does
 
-abbrev high_16 : ℕ → ℕ
+abbrev pub high_16 : ℕ → ℕ
 high_16 x = bit_and (x / 8) 72340172838076673
 
-abbrev pub word_16 : ℕ → ℕ
+abbrev word_16 : ℕ → ℕ
 word_16 x =
     bit_xor (bit_xor (bit_and x 506381209866536711 * 2 ^ 1 % 18446744073709551616) (high_16 x))
     (high_16 x * 2 ^ 1 % 18446744073709551616)
@@ -49,10 +49,10 @@ word-sum_16 =
     let h : Additive high_16 = after (masked 72340172838076673) (high 3) in
     plus (plus (after (left 1) (masked 506381209866536711)) h) (after (left 1) h)
 
-abbrev high_256 : ℕ → ℕ
+abbrev pub high_256 : ℕ → ℕ
 high_256 x = bit_and (x / 128) 72340172838076673
 
-abbrev pub word_256 : ℕ → ℕ
+abbrev word_256 : ℕ → ℕ
 word_256 x =
     bit_xor
     (bit_xor
@@ -87,11 +87,16 @@ by_test f bits p q t x hx l hl =
     (λ i hi. eqb→eq (lane (f (2 ^ i)) l) (doubled bits (lane (2 ^ i) l)) (all-at 64 (same? f bits l) (all-at 8 (λ l. all 64 (same? f bits l)) t l hl) i hi))
     x hx
 
-pub double_16 : (x : ℕ) → x < 2 ^ 64 → (l : ℕ) → l < 8 → lane (word_16 x) l ≡ doubled 4 (lane x l)
-double_16 = by_test word_16 4 word-sum_16 doubled-sum_16 test_16
+-- what stays in the lanes is low, and h is what leaves them
+pub double_16 : (x low h : ℕ) → low ≡ bit_and x 506381209866536711 * 2 ^ 1 % 18446744073709551616 → h ≡ high_16 x → x < 2 ^ 64
+    → (l : ℕ) → l < 8 → lane (bit_xor (bit_xor low h) (h * 2 ^ 1 % 18446744073709551616)) l ≡ doubled 4 (lane x l)
+double_16 x low h e g hx l hl = rw (e, g) (by_test word_16 4 word-sum_16 doubled-sum_16 test_16 x hx l hl)
 
-pub double_256 : (x : ℕ) → x < 2 ^ 64 → (l : ℕ) → l < 8 → lane (word_256 x) l ≡ doubled 8 (lane x l)
-double_256 = by_test word_256 8 word-sum_256 doubled-sum_256 test_256
+pub double_256 : (x low h : ℕ) → low ≡ bit_and x 9187201950435737471 * 2 ^ 1 % 18446744073709551616 → h ≡ high_256 x → x < 2 ^ 64
+    → (l : ℕ) → l < 8
+    → lane (bit_xor (bit_xor (bit_xor (bit_xor low h) (h * 2 ^ 1 % 18446744073709551616)) (h * 2 ^ 3 % 18446744073709551616)) (h * 2 ^ 4 % 18446744073709551616)) l
+    ≡ doubled 8 (lane x l)
+double_256 x low h e g hx l hl = rw (e, g) (by_test word_256 8 word-sum_256 doubled-sum_256 test_256 x hx l hl)
 
 -- ---- which field
 

@@ -6,29 +6,21 @@ use Prim.Native.Nat.{ℕ, suc, ◌+◌, ◌-◌, ◌*◌, ◌/◌, ◌%◌, ◌<
 use mathlib.Core.List.{List}
 use native.Mathlib.Omega.{arith}
 use native.Mathlib.Decide.{dec_lt}
-use native.Mathlib.Nat.{mul-le-mul, mul-le-mul_right, suc-mul}
+use native.Mathlib.Nat.{mul-le-mul_right, suc-mul}
 use borrow.Author.Tests.{lt-ltb, le-ltb}
 use lib.Bits.{bit_and, and_zero_r}
 use lib.ListN.{get_or}
 use Rattle.field.specs.Field.{pick}
-use Rattle.sharing.specs.Bounds.{most_columns}
 use Rattle.sharing.proofs.Loops.{taken_more}
 use Rattle.word.specs.Lanes.{lane, ones, multiple}
 use Rattle.word.specs.Rows.{byte_of, words_of, Prepared}
 use Rattle.word.proofs.Lanes.{lane-lt, lane_and}
-use Rattle.choice.specs.Code.Writing.{most_words, WroteGroups, IsMultipleOf, IsLive}
+use Rattle.choice.specs.Code.Writing.{WroteGroups, IsMultipleOf, IsLive}
 use Rattle.choice.proofs.Live.{and-ones, lane_ones, multiple-zero}
 
 -- the words of a row, of all shares; the last n of them may have lanes of other columns
 abbrev pub words : ℕ → ℕ → ℕ
 words n columns = words_of columns * n
-
-pub words_most : (n columns : ℕ) → n ≤ 4 → columns ≤ most_columns → words n columns ≤ most_words
-words_most n columns h g = mul-le-mul {n₁ = words_of columns} {m₁ = n} {n₂ = words_of most_columns} {m₂ = 4} (omega arith) h
-
--- one word of each share is there
-pub one_word : (n columns : ℕ) → 1 ≤ columns → n ≤ words n columns
-one_word n columns h = omega (arith, suc-mul 0 n, mul-le-mul_right {m = 1} {n = words_of columns} n (omega arith))
 
 -- a word that is not the last is before the last ones
 early : (n columns e s : ℕ) → s < n → e / 8 + 1 < words_of columns → e / 8 * n + s < words n columns - n

@@ -19,7 +19,7 @@ use Rattle.course.specs.declared.Order.{Order}
 use Rattle.course.specs.StepList.{each, column, columns, openings, step_list, up_to, in_list, draws, mask_cost, nonzero_cost, sum_over, full_mask, full_nonzero}
 use Rattle.course.specs.Taken.{before_step, steps_before, taken_at}
 use Rattle.course.specs.Next.{first_of, following, Chain}
-use Rattle.course.proofs.Within.{within, column_in}
+use Rattle.course.proofs.Within.{within, column_listed}
 use Rattle.course.proofs.Members.{AllIn, all_in, listed}
 use Rattle.course.proofs.Chain.{chain, columns_split, check-last}
 use Rattle.course.proofs.Sums.{openings-length, sum-append}
@@ -158,7 +158,7 @@ module _ (m : ℕ) where
   -- so the list is what comes before a step, the step, and a rest
   pub split : (s : Step) → in_list m s ≡ true → (rest : List Step) × (step_list m ≡ before_step m s ++ (s ∷ rest))
   split s h =
-      let w = column_in m s (within m s h) in
+      let w = column_listed m s h in
       met s (first_of m 1) [] (step_list m) (chain m (omega arith)) (all_in m) none_first (listed m s h)
 
 module _ (o : Order) where

@@ -15,7 +15,7 @@ use Rattle.course.specs.declared.Step.{Step}
 use Rattle.course.specs.declared.Step.TheVariants.{Mix, Check, Scale, Clear, Open, Lift}
 use Rattle.course.specs.declared.Order.{Order}
 use Rattle.course.specs.StepList.{Sizes, each, column, columns, openings, step_list, in_list, column_of, cost_of, cost_in, mask_cost, nonzero_cost, sum_over, full_mask, full_nonzero}
-use Rattle.course.proofs.Within.{within, column_in}
+use Rattle.course.proofs.Within.{column_listed}
 use Rattle.course.proofs.Members.{AllIn, all_in}
 
 pub sum-append : (f : Step → ℕ) (a b : List Step) → sum_over f (a ++ b) ≡ sum_over f a + sum_over f b
@@ -114,7 +114,7 @@ module _ (o : Order) where
   pub cost_small : Sizes o → (s : Step) → in_list o.size s ≡ true → mask_cost o s ≤ most_draws
   unfolding cost_of
   cost_small z s h =
-      let w = column_in o.size s (within o.size s h) in
+      let w = column_listed o.size s h in
       cost_few o.field o.shares (o.size + 1) z.four (omega (arith, z.most)) s w.0
 
   sum_small : Sizes o → (l : List Step) → AllIn o.size l → sum_over (mask_cost o) l ≤ length l * most_draws

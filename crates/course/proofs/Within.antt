@@ -1,7 +1,6 @@
 -- What the closed test `in_list` says of a step's numbers: 1 ≤ j ≤ m, j < k ≤ m where there is a k, and 2 ≤ j for Lift.
 -- Assumes nothing.
 use mathlib.Core.Bool.{Bool, true, false, ◌&&◌, false≢true}
-use mathlib.Core.Logic.{◌⊎◌, ⊎_elim}
 use mathlib.Core.Path.{◌≡◌, refl}
 use Prim.Native.Nat.{ℕ, ◌<◌, ◌≤◌}
 use native.Mathlib.Omega.{arith}
@@ -58,7 +57,6 @@ in_list_lem m (Clear j k) w = rows_so m j k w
 in_list_lem m (Open j) w = column_so 1 m j w
 in_list_lem m (Lift j) w = column_so 2 m j w
 
--- the column of a step of the list
 pub column_in : (m : ℕ) (s : Step) → Within m s → (1 ≤ column_of s) × (column_of s ≤ m)
 column_in m (Mix j k) w = (w.0, omega arith)
 column_in m (Check j) w = w
@@ -67,6 +65,6 @@ column_in m (Clear j k) w = (w.0, omega arith)
 column_in m (Open j) w = w
 column_in m (Lift j) w = (omega arith, w.1)
 
--- a step is none of the five others
-pub not_of_five : {A B C D E : Type 0} → (A → ⊥) → (B → ⊥) → (C → ⊥) → (D → ⊥) → (E → ⊥) → A ⊎ (B ⊎ (C ⊎ (D ⊎ E))) → ⊥
-not_of_five a b c d e s = ⊎_elim a (⊎_elim b (⊎_elim c (⊎_elim d e))) s
+-- the column of a step of the list
+pub column_listed : (m : ℕ) (s : Step) → in_list m s ≡ true → (1 ≤ column_of s) × (column_of s ≤ m)
+column_listed m s h = column_in m s (within m s h)

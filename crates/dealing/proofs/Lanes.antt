@@ -51,7 +51,7 @@ lane_word (suc k) g b zero h = lane_first (g 0) (word k (λ i. g (suc i))) (b 0)
 lane_word (suc k) g b (suc l) h =
     lane-next (g 0) (word k (λ i. g (suc i))) l (b 0) ∙ lane_word k (λ i. g (suc i)) (λ i. b (suc i)) l (le_of_suc-le-suc h)
 
--- a word from eight bytes, and from four pairs of bytes
+-- a word from eight bytes
 module _ (g : ℕ → ℕ) (h : (l : ℕ) → g l < 256) where
   pub eight_lanes : (a b c d e f i j : ℕ) → a ≡ g 0 → b ≡ g 1 → c ≡ g 2 → d ≡ g 3 → e ≡ g 4 → f ≡ g 5 → i ≡ g 6 → j ≡ g 7
       → Lanes (a + b * 256 + c * 65536 + d * 16777216 + e * 4294967296 + f * 1099511627776 + i * 281474976710656 + j * 72057594037927936) g
@@ -60,12 +60,21 @@ module _ (g : ℕ → ℕ) (h : (l : ℕ) → g l < 256) where
       let w : a + b * 256 + c * 65536 + d * 16777216 + e * 4294967296 + f * 1099511627776 + i * 281474976710656 + j * 72057594037927936 ≡ word 8 g = omega arith in
       record { at = λ l k. ap (λ (x : ℕ). lane x l) w ∙ lane_word 8 g h l k }
 
-  pub four_lanes : (a b c d : ℕ) → a ≡ g 0 + g 1 * 256 → b ≡ g 2 + g 3 * 256 → c ≡ g 4 + g 5 * 256 → d ≡ g 6 + g 7 * 256
-      → Lanes (a + b * 65536 + c * 4294967296 + d * 281474976710656) g
-  unfolding word
-  four_lanes a b c d ha hb hc hd =
-      let w : a + b * 65536 + c * 4294967296 + d * 281474976710656 ≡ word 8 g = omega arith in
-      record { at = λ l k. ap (λ (x : ℕ). lane x l) w ∙ lane_word 8 g h l k }
+-- a word that takes in a pair of bytes below what it holds
+pair_is : (x y v : ℕ) → v * 65536 + (x + y * 256) ≡ x + 256 * (y + 256 * v)
+pair_is x y v = omega arith
+
+pub pair_lanes : (g : ℕ → ℕ) (x y v n k : ℕ) → x < 256 → y < 256 → k ≡ n + 2 → x ≡ g 0 → y ≡ g 1 → ((i : ℕ) → i < n → lane v i ≡ g (i + 2))
+    → (i : ℕ) → i < k → lane (v * 65536 + (x + y * 256)) i ≡ g i
+pair_lanes g x y v n k hx hy e a b h i l =
+    rw (pair_is x y v) (go i l)
+  where
+    go : (i : ℕ) → i < k → lane (x + 256 * (y + 256 * v)) i ≡ g i
+    go zero l = lane_first x (y + 256 * v) hx ∙ a
+    go (suc zero) l = lane-next x (y + 256 * v) 0 hx ∙ lane_first y v hy ∙ b
+    go (suc (suc i)) l =
+        let f : i + 2 ≡ suc (suc i) = omega arith in
+        lane-next x (y + 256 * v) (suc i) hx ∙ lane-next y v i hy ∙ h i (omega arith) ∙ ap g f
 
 -- ---- moved
 

@@ -10,21 +10,18 @@ ghost use Rattle.desk_line.specs.Text.{decimal};
 ghost use Rattle.desk_line.specs.Line.{refused_line, counts_line, desk_line, Wrote, Made, ReadFront};
 
 use course::Counts;
-use solver::Counting;
 use std::io::{Read, Write};
 use verdict::Refusal;
 
 // Puts a text at a place of out, and answers the place behind it.
+// stays: (d) that place is all that the next text needs: a cursor would carry it and the buffer, and say the same of both
 fn append(text: &[u8], out: &mut [u8], at: usize) -> usize
     requires { at + length text.now ≤ length out.old }
     ensures { Wrote out.old at text.now out.new result }
 {
-    let mut i = 0;
-    while i < text.len() {
-        out[at + i] = text[i];
-        i += 1;
-    }
-    at + i
+    let end = at + text.len();
+    out[at..end].copy_from_slice(text);
+    end
 }
 
 // Puts a number in decimal and one byte behind it, as append does. A number has at most 20 digits.
@@ -66,14 +63,9 @@ fn counted(c: Counts, out: &mut [u8]) -> usize
     number(c.nonzero, b'\n', out, b)
 }
 
-fn wide(x: u8) -> u64
-    ensures { result ≡ x }
-{
-    x as u64
-}
-
 // Makes the line of an input at the front of out, leaves the rest of out as it was, and answers the line's length. The first promise fixes
 // the answer and every byte of out; the second follows from it, and lets a caller lend the line with no proof of its own.
+// stays: (a) the buffer and the line's length come apart, as `Made` and the theorem made_once (docs/PROMISES.md) have them
 pub fn line(input: &[u8], out: &mut [u8; 64]) -> usize
     ensures made { Made out.old (desk_line input.now) out.new result }
     ensures counts_within { IsPrefixLen result out.new }
@@ -81,10 +73,10 @@ pub fn line(input: &[u8], out: &mut [u8; 64]) -> usize
     if input.len() != 4 {
         return refused(13, out);
     }
-    let field = wide(input[0]) * 256 + wide(input[1]);
-    match solver::counts(field, wide(input[2]), wide(input[3])) {
-        Counting::Refused(r) => refused(number_of(r), out),
-        Counting::Counted(c) => counted(c, out),
+    let field = u64::from(input[0]) * 256 + u64::from(input[1]);
+    match solver::counts(field, u64::from(input[2]), u64::from(input[3])) {
+        Ok(c) => counted(c, out),
+        Err(r) => refused(number_of(r), out),
     }
 }
 
@@ -93,6 +85,7 @@ fn read_front<R: Read>(from: &mut R, input: &mut [u8]) -> std::io::Result<usize>
     ensures { IfOk result (λ n. ReadFront (R.remaining from.old) (R.remaining from.new) input.new n) }
 {
     let mut n = 0;
+    // stays: (d) a turn goes on by as many bytes as the reader gave, which no range or chunk counts
     while n < input.len() {
         let more = from.read(&mut input[n..])?;
         if more == 0 {

@@ -4,10 +4,12 @@
 // Stands on solver, and on show to print. Bytes are printed in hex, other numbers in decimal.
 #![tactic(auto)]
 
-use show::{COUNTS, FILLED, REFUSED, SOLVED, STOPPED, Words};
-use solver::{Filling, Solving};
+use course::Counts;
+use show::{Hex, Outcome};
+use std::fmt::Display;
 use std::io;
 use verdict::Refusal;
+use walk::Ending;
 
 // How many examples ran, and how many of them differed.
 #[derive(Clone, Copy)]
@@ -22,75 +24,73 @@ const NONZERO: [u8; 6] = [0xba, 0x9f, 0x16, 0x53, 0xc1, 0x8d];
 // Mask draws: the examples hold for any, so these are 7 and on in steps of 109, modulo 256.
 fn fill(tape: &mut [u8]) {
     let mut x = 7u8;
-    for i in 0..tape.len() {
-        tape[i] = x;
-        x = std::num::wrapping_add_u8(x, 109);
+    for byte in tape {
+        *byte = x;
+        x = x.wrapping_add(109);
     }
-}
-
-// The test keeps the sum from wrapping.
-fn one_more(n: u64) -> u64 {
-    if n < 1000000 { n + 1 } else { n }
 }
 
 // Ends an example's line, and counts it.
 fn end(out: &impl Print, t: Tally, good: bool) -> io::Result<Tally> {
+    let run = t.run.saturating_add(1);
     if good {
-        show::text(out, "; ok\n")?;
-        Ok(Tally {
-            run: one_more(t.run),
-            differ: t.differ,
-        })
+        print!(out; "; ok\n")?;
+        Ok(Tally { run, ..t })
     } else {
-        show::text(out, "; DIFFERS\n")?;
-        Ok(Tally {
-            run: one_more(t.run),
-            differ: one_more(t.differ),
-        })
+        print!(out; "; DIFFERS\n")?;
+        let differ = t.differ.saturating_add(1);
+        Ok(Tally { run, differ })
     }
 }
 
 // An example whose outcome is an answer.
-fn compare(out: &impl Print, t: Tally, name: &str, want: Words, came: Words) -> io::Result<Tally> {
-    show::text(out, name)?;
-    show::text(out, ": wanted ")?;
-    show::say(out, want)?;
-    show::text(out, "; came ")?;
-    show::say(out, came)?;
-    end(out, t, show::same(want, came))
+fn compare<T: Copy + PartialEq + Display>(
+    out: &impl Print,
+    t: Tally,
+    name: &str,
+    want: Result<T, Refusal>,
+    came: Result<T, Refusal>,
+) -> io::Result<Tally> {
+    print!(out; "{name}: wanted ")?;
+    show::say(out, &want)?;
+    print!(out; "; came ")?;
+    show::say(out, &came)?;
+    end(out, t, want == came)
 }
 
 // The rest of an example whose outcome is an answer and bytes, which begin y.
-fn compare_bytes(
+fn compare_bytes<T: Copy + PartialEq + Display>(
     out: &impl Print,
     t: Tally,
-    want: Words,
+    want: Result<T, Refusal>,
     x: &[u8],
-    came: Words,
+    came: Result<T, Refusal>,
     y: &[u8],
 ) -> io::Result<Tally> {
-    let k = x.len();
-    if y.len() < k {
+    let Some(y) = y.get(..x.len()) else {
         return end(out, t, false);
-    }
-    show::text(out, ": wanted ")?;
-    show::say(out, want)?;
-    show::bytes(out, " with", x)?;
-    show::text(out, "; came ")?;
-    show::say(out, came)?;
-    show::bytes(out, " with", &y[0..k])?;
-    end(out, t, show::same(want, came) && show::alike(x, &y[0..k]))
+    };
+    print!(out; ": wanted ")?;
+    show::say(out, &want)?;
+    print!(out; " with{}; came ", Hex(x))?;
+    show::say(out, &came)?;
+    print!(out; " with{}", Hex(y))?;
+    end(out, t, want == came && x == y)
 }
 
 // Deals the values, and solves: the first 18 draws are for deal, the others for solve.
-fn run(field: u64, shares: u64, values: &[u8], table: &mut [u8], x: &mut [u8]) -> Solving {
+fn run(
+    field: u64,
+    shares: u64,
+    values: &[u8],
+    table: &mut [u8],
+    x: &mut [u8],
+) -> Result<Ending, Refusal> {
     let size = x.len() as u64;
     let mut tape = [0u8; 256];
     fill(&mut tape);
-    match solver::deal(field, shares, size, values, table, &tape[0..18]) {
-        Filling::Refused(r) => Solving::Refused(r),
-        Filling::Filled => solver::solve(field, shares, size, table, x, &tape[18..], &NONZERO),
-    }
+    solver::deal(field, shares, size, values, table, &tape[0..18])?;
+    solver::solve(field, shares, size, table, x, &tape[18..], &NONZERO)
 }
 
 // The bytes of a table of one equation or of two.
@@ -103,11 +103,17 @@ fn table_bytes(size: usize, shares: u64) -> usize {
 }
 
 // Deals and solves a system of one equation or of two, whose solution begins x.
-fn tried(field: u64, shares: u64, size: usize, values: &[u8], x: &mut [u8]) -> Solving {
+fn tried(
+    field: u64,
+    shares: u64,
+    size: usize,
+    values: &[u8],
+    x: &mut [u8],
+) -> Result<Ending, Refusal> {
     let mut table = [0u8; 24];
     let k = table_bytes(size, shares);
     if 24 < k || x.len() < size {
-        return Solving::Refused(Refusal::Input(k));
+        return Err(Refusal::Input(k));
     }
     run(field, shares, values, &mut table[0..k], &mut x[0..size])
 }
@@ -120,31 +126,31 @@ fn system(
     field: u64,
     shares: u64,
     values: &[u8],
-    want: Words,
+    want: Result<Outcome, Refusal>,
     x: &[u8],
 ) -> io::Result<Tally> {
     let mut y = [0xeeu8; 2];
     let a = tried(field, shares, x.len(), values, &mut y);
-    show::text(out, name)?;
-    show::number(out, ", n=", shares)?;
-    compare_bytes(out, t, want, x, show::verdict(a), &y)
+    print!(out; "{name}")?;
+    print!(out; ", n={shares}")?;
+    compare_bytes(out, t, want, x, a.map(Outcome::from), &y)
 }
 
 // Solved with x, or stopped at a column.
-fn solved() -> Words {
-    show::tell(SOLVED, 0, 0, 0)
+fn solved() -> Result<Outcome, Refusal> {
+    Ok(Outcome::Solved)
 }
 
-fn stopped(j: u64) -> Words {
-    show::tell(STOPPED, j, 0, 0)
+fn stopped(j: u64) -> Result<Outcome, Refusal> {
+    Ok(Outcome::Stopped(j))
 }
 
-fn refused(number: u64, detail: u64) -> Words {
-    show::tell(REFUSED, number, detail, 0)
-}
-
-fn counts(steps: u64, mask: u64, nonzero: u64) -> Words {
-    show::tell(COUNTS, steps, mask, nonzero)
+fn counts(steps: usize, mask: usize, nonzero: usize) -> Result<Counts, Refusal> {
+    Ok(Counts {
+        steps,
+        mask,
+        nonzero,
+    })
 }
 
 // A product a*x = b, as the system [a]x = [b].
@@ -174,9 +180,9 @@ fn products(out: &impl Print, t: Tally) -> io::Result<Tally> {
 fn sum(out: &impl Print, t: Tally) -> io::Result<Tally> {
     let mut values = [0xeeu8; 2];
     let f = solver::gather(256, 2, 1, &[0x57, 0x83, 0x01, 0x02], &mut values);
-    show::text(out, "F256 57+83=d4 (and 01+02=03) as a gather, n=2")?;
-    let want = show::tell(FILLED, 0, 0, 0);
-    compare_bytes(out, t, want, &[0xd4, 0x03], show::of_filling(f), &values)
+    print!(out; "F256 57+83=d4 (and 01+02=03) as a gather, n=2")?;
+    let came = f.map(|_| "filled");
+    compare_bytes(out, t, Ok("filled"), &[0xd4, 0x03], came, &values)
 }
 
 fn systems(out: &impl Print, t: Tally, n: u64) -> io::Result<Tally> {
@@ -229,11 +235,11 @@ fn counted_run(
     shares: u64,
     size: usize,
     values: &[u8],
-    want: Words,
+    want: Result<Counts, Refusal>,
 ) -> io::Result<Tally> {
     let mut x = [0xeeu8; 2];
     let a = tried(field, shares, size, values, &mut x);
-    compare(out, t, name, want, show::taken(a))
+    compare(out, t, name, want, a.map(show::taken))
 }
 
 // The counts that the call counts gives.
@@ -244,10 +250,9 @@ fn counted(
     field: u64,
     shares: u64,
     size: u64,
-    want: Words,
+    want: Result<Counts, Refusal>,
 ) -> io::Result<Tally> {
-    let c = solver::counts(field, shares, size);
-    compare(out, t, name, want, show::of_counting(c))
+    compare(out, t, name, want, solver::counts(field, shares, size))
 }
 
 fn counts_of_runs(out: &impl Print, t: Tally) -> io::Result<Tally> {
@@ -369,32 +374,40 @@ fn counts_of_orders(out: &impl Print, t: Tally) -> io::Result<Tally> {
     counted(out, t, name, 256, 4, 96, counts(9503, 3820512, 288))
 }
 
-fn started(
+// A refused order.
+fn refused(
     out: &impl Print,
     t: Tally,
     name: &str,
     field: u64,
     shares: u64,
     size: u64,
-    want: Words,
+    want: Refusal,
 ) -> io::Result<Tally> {
-    let s = solver::start(field, shares, size);
-    compare(out, t, name, want, show::of_start(s))
+    let came = solver::start(field, shares, size).map(|_| "fresh");
+    compare(out, t, name, Err(want), came)
 }
 
 fn edges_of_sizes(out: &impl Print, t: Tally) -> io::Result<Tally> {
-    let t = started(out, t, "shares 1", 16, 1, 1, refused(2, 1))?;
-    let t = started(out, t, "shares 5", 16, 5, 1, refused(2, 5))?;
-    let t = started(out, t, "size 97", 16, 2, 97, refused(3, 97))?;
-    started(out, t, "field 7 and shares 0", 7, 0, 1, refused(1, 7))
+    let t = refused(out, t, "shares 1", 16, 1, 1, Refusal::Shares(1))?;
+    let t = refused(out, t, "shares 5", 16, 5, 1, Refusal::Shares(5))?;
+    let t = refused(out, t, "size 97", 16, 2, 97, Refusal::Size(97))?;
+    let name = "field 7 and shares 0";
+    refused(out, t, name, 7, 0, 1, Refusal::Field(7))
 }
 
 // [2]x=[3] in two shares, solved with a mask tape.
-fn masked(out: &impl Print, t: Tally, name: &str, mask: &[u8], want: Words) -> io::Result<Tally> {
+fn masked(
+    out: &impl Print,
+    t: Tally,
+    name: &str,
+    mask: &[u8],
+    want: Result<Outcome, Refusal>,
+) -> io::Result<Tally> {
     let mut table = [4u8, 6, 10, 9];
     let mut x = [0xeeu8; 1];
     let a = solver::solve(16, 2, 1, &mut table, &mut x, mask, &[0xba]);
-    compare(out, t, name, want, show::verdict(a))
+    compare(out, t, name, want, a.map(Outcome::from))
 }
 
 fn edges_of_tapes(out: &impl Print, t: Tally) -> io::Result<Tally> {
@@ -405,7 +418,7 @@ fn edges_of_tapes(out: &impl Print, t: Tally) -> io::Result<Tally> {
         t,
         "m=1 n=2 with 11 mask bytes",
         &tape[0..11],
-        refused(7, 12),
+        Err(Refusal::MaskShort(12)),
     )?;
     let t = masked(out, t, "m=1 n=2 with 12 mask bytes", &tape[0..12], solved())?;
     masked(out, t, "m=1 n=2 with 13 mask bytes", &tape[0..13], solved())
@@ -423,7 +436,5 @@ fn main(rt: HostRuntime) -> io::Result<()> {
     let t = counts_of_orders(&rt, t)?;
     let t = edges_of_sizes(&rt, t)?;
     let t = edges_of_tapes(&rt, t)?;
-    show::number(&rt, "", t.run)?;
-    show::number(&rt, " examples, ", t.differ)?;
-    show::text(&rt, " differ\n")
+    print!(rt; "{} examples, {} differ\n", t.run, t.differ)
 }

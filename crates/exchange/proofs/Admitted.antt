@@ -2,7 +2,7 @@
 -- Assumes nothing.
 use mathlib.Core.List.{List, []}
 use mathlib.Core.Logic.{⊎_elim}
-use mathlib.Core.Path.{◌≡◌, sym, ap, ◌∙◌}
+use mathlib.Core.Path.{◌≡◌, refl, ap}
 use Prim.Native.Nat.{ℕ, ◌+◌, ◌*◌, ◌≤◌}
 use native.Mathlib.Nat.{mul-le-mul}
 use native.Mathlib.Omega.{arith}
@@ -10,16 +10,15 @@ use lib.ListN.{length}
 use Rattle.field.specs.Field.{field_of}
 use Rattle.sharing.specs.Lists.{Below}
 use Rattle.sharing.specs.Bounds.{most_rows, most_width}
-use Rattle.verdict.specs.declared.Refusal.{Refusal}
-use Rattle.verdict.specs.declared.Verdict.{Verdict}
-use Rattle.verdict.specs.declared.Verdict.TheVariants.{Pass, Refuse}
-use Rattle.verdict.specs.Told.{passed}
+use Rattle.verdict.specs.Told.{Told, Line, passed, refused}
 use Rattle.verdict.specs.Cells.{bytes_of}
-use Rattle.verdict.specs.Code.Verdicts.{told}
+use Rattle.verdict.specs.Calls.{Outcome, refuses, gives, after, call, Nothing}
 use Rattle.verdict.proofs.Told.{left, right}
 use Rattle.verdict.proofs.Passes.{Numbers, numbered, numbers_pass, long_enough, buffered, buffers_pass, ◌and◌}
-use Rattle.exchange.specs.Record.{rows, table_length, record_length, end_at, stretch}
-use Rattle.exchange.specs.Calls.{write_order, no18, read_order, table_in}
+use Rattle.exchange.specs.declared.System.{System}
+use Rattle.exchange.specs.Record.{rows, table_length, record_length, end_at, stretch, system_in}
+use Rattle.exchange.specs.Calls.{write_order, no18, read_order, read_call, handed, table_in}
+use Rattle.exchange.proofs.Fields.{table_room}
 
 pub entries_few : (m : ℕ) → m ≤ most_rows → m * (m + 1) ≤ 9312
 entries_few m h = mul-le-mul {n₁ = m} {m₁ = m + 1} {n₂ = most_rows} {m₂ = most_width} h (omega (arith, h))
@@ -74,11 +73,32 @@ module _ (input : List ℕ) where
   unfolding no18
   nothing_after h = long_enough 18 {long = 3 + end_at input} {wanted = length input} _ h
 
-  module _ (v : Verdict) where
-    pub none_in : (r : Refusal) → told v ≡ read_order input → v ≡ Refuse r → table_in input ≡ []
-    unfolding table_in
-    none_in r e h = rw (sym e ∙ ap told h)
+  -- the table of an input that is read is the stretch
+  pub tables : read_order input ≡ passed → table_in input ≡ stretch input
+  unfolding table_in
+  tables e = rw e
 
-    pub some_in : told v ≡ read_order input → v ≡ Pass → table_in input ≡ stretch input
-    unfolding table_in
-    some_in e h = rw (sym e ∙ ap told h)
+-- what `read` answers, back to its order
+given : (o : Told) (x y : System) → after (gives x) (tt {0}) ≡ call o tt (after (gives y) tt) → (o ≡ passed) × (x ≡ y)
+unfolding call
+given passed x y e = let w : gives x ≡ gives y = ap (λ (u : Outcome System Nothing). u.says) e in (refl, cc)
+given (refused l) x y e = let w : gives x ≡ refuses l = ap (λ (u : Outcome System Nothing). u.says) e in absurd (cc)
+
+kept : (o : Told) (l : Line) (y : System) (t : List ℕ) → after (refuses l) (tt {0}) ≡ call o tt (after (gives y) tt) → handed o t ≡ []
+unfolding call
+kept passed l y t e = let w : refuses l ≡ gives y = ap (λ (u : Outcome System Nothing). u.says) e in absurd (cc)
+kept (refused k) l y t e = refl
+
+module _ (input : List ℕ) where
+  pub read_gives : (s : System) → after (gives s) tt ≡ read_call input → (read_order input ≡ passed) × (s ≡ system_in input)
+  unfolding read_call
+  read_gives s e = given (read_order input) s (system_in input) e
+
+  pub read_refuses : (l : Line) → after (refuses l) tt ≡ read_call input → table_in input ≡ []
+  unfolding read_call table_in
+  read_refuses l e = kept (read_order input) l (system_in input) (stretch input) e
+
+  -- the table's bytes stand in what is read
+  pub read_room : (s : System) → after (gives s) tt ≡ read_call input → (16 + s.length ≤ length input) × (s.length ≤ 65535)
+  unfolding read_order
+  read_room s e = let g = read_gives s e in table_room input s g.1 (left _ _ g.0)

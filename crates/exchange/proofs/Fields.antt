@@ -6,7 +6,6 @@ use Prim.Native.Nat.{ℕ, ◌+◌, ◌-◌, ◌≤◌}
 use native.Mathlib.Omega.{arith}
 use lib.ListN.{length, get_or, take, drop, length-drop}
 use lib.Seq.{length-take-le}
-use borrow.Author.Tests.{le-ltb, eq-eqb}
 use Rattle.verdict.specs.Told.{passed, ◌or◌}
 use Rattle.verdict.specs.Refusals.{numbers, no4, no6}
 use Rattle.verdict.proofs.Told.{left, right, not_then}
@@ -42,12 +41,6 @@ module _ (input : List ℕ) (at tag least most : ℕ) where
       and (long_enough 17 {long = length input} {wanted = at + 3} _ (omega (arith, s.whole))
       and (unmet 17 _ (within least most (length_at input at) s.long s.short)
       and long_enough 17 {long = length input} {wanted = at + (3 + length_at input at)} _ s.whole)))
-
-  -- what is left of the order once the tag has passed
-  pub field_rest : at + 3 ≤ length input → get_or input at 0 ≡ tag
-      → field_at input at tag least most ≡ unsuited input at least most or ends input at (3 + length_at input at)
-  unfolding field_at ends no16 ◌or◌
-  field_rest l e = rw (le-ltb (length input) (at + 1) (omega arith), eq-eqb (get_or input at 0) tag e, le-ltb (length input) (at + 3) l)
 
 module _ (input : List ℕ) where
   -- the five fields

@@ -3,35 +3,25 @@
 use mathlib.Core.List.{List}
 use mathlib.Core.Path.{◌≡◌, refl, ap}
 use Prim.Native.Nat.{ℕ}
+use Rattle.std.specs.Prelude.{Result, Ok, Err}
+use Rattle.verdict.specs.declared.Refusal.{Refusal}
 use Rattle.verdict.specs.Calls.{Says, refuses, gives, Nothing}
+use Rattle.verdict.specs.Code.Verdicts.{says}
 use Rattle.verdict.proofs.Once.{back, back-paper, Once, only}
 use Rattle.exchange.specs.declared.System.{System}
-use Rattle.exchange.specs.declared.Writing.{Writing}
-use Rattle.exchange.specs.declared.Writing.TheVariants as W
-use Rattle.exchange.specs.declared.Reading.{Reading}
-use Rattle.exchange.specs.declared.Reading.TheVariants as R
-use Rattle.exchange.specs.Calls.{write_says, read_says}
 
-write_back_lem : Says Nothing → Writing
-write_back_lem (refuses l) = W.Refused (back l)
-write_back_lem (gives x) = W.Written
+module _ {A : Type 0} where
+  answer : Says A → Result A Refusal
+  answer (refuses l) = Err (back l)
+  answer (gives a) = Ok a
 
-write_back : (w : Writing) → write_back_lem (write_says w) ≡ w
-unfolding write_back_lem
-write_back W.Written = refl
-write_back (W.Refused r) = ap W.Refused (back-paper r)
+  answer_back : (x : Result A Refusal) → answer (says x) ≡ x
+  unfolding answer
+  answer_back (Ok a) = refl
+  answer_back (Err r) = ap Err (back-paper r)
 
-pub write_once : Once write_says (List ℕ)
-write_once = only write_says write_back_lem write_back
+pub write_once : Once {A = Nothing} says (List ℕ)
+write_once = only says answer answer_back
 
-read_back_lem : Says System → Reading
-read_back_lem (refuses l) = R.Refused (back l)
-read_back_lem (gives s) = R.Found s
-
-read_back : (r : Reading) → read_back_lem (read_says r) ≡ r
-unfolding read_back_lem
-read_back (R.Found s) = refl
-read_back (R.Refused r) = ap R.Refused (back-paper r)
-
-pub read_once : Once read_says Nothing
-read_once = only read_says read_back_lem read_back
+pub read_once : Once {A = System} says Nothing
+read_once = only says answer answer_back

@@ -4,8 +4,9 @@ use mathlib.Core.List.{List, [], ◌∷◌, ◌++◌, append_assoc, append-nil}
 use mathlib.Core.Path.{◌≡◌, refl, sym, ap, ◌∙◌}
 use Prim.Native.Nat.{ℕ, ◌+◌, ◌-◌}
 use native.Mathlib.Omega.{arith}
-use lib.ListN.{length, take, drop, length-append, drop_of_length-le}
+use lib.ListN.{length, drop, length-append, drop_of_length-le}
 use lib.Seq.{take_at, drop_at}
+use borrow.Rule.Slice.PartMut.{put_mid}
 use Rattle.exchange.specs.Record.{tagged, record_of}
 use Rattle.exchange.specs.Code.Header.{header_of}
 
@@ -27,18 +28,18 @@ module _ (h t e target : List ℕ) (k : ℕ) (sixteen : length h ≡ 16) (long :
   first = h ++ drop 16 target
 
   abbrev second : List ℕ
-  second = take 16 first ++ (t ++ drop (k + 16 - 16) (drop 16 first))
+  second = put_mid 16 (16 + k - 16) first t
 
   abbrev rest : List ℕ
-  rest = drop (k + 16 - 16) (drop 16 target)
+  rest = drop (16 + k - 16) (drop 16 target)
 
   second_is : second ≡ (h ++ t) ++ rest
   second_is = rw (take_at h (drop 16 target) 16 sixteen, drop_at h (drop 16 target) 16 sixteen) (sym (append_assoc h t rest))
 
-  both_long : length (h ++ t) ≡ k + 16
+  both_long : length (h ++ t) ≡ 16 + k
   both_long = length-append h t ∙ omega (arith, sixteen, long)
 
-  pub copied : take (k + 16) second ++ (e ++ drop (length second - (k + 16)) (drop (k + 16) second)) ≡ h ++ (t ++ e)
+  pub copied : put_mid (16 + k) (length second - (16 + k)) second e ≡ h ++ (t ++ e)
   copied =
-      let none : drop (length ((h ++ t) ++ rest) - (k + 16)) rest ≡ [] = drop_of_length-le rest {i = length ((h ++ t) ++ rest) - (k + 16)} (omega (arith, length-append (h ++ t) rest, both_long)) in
-      rw (second_is, take_at (h ++ t) rest (k + 16) both_long, drop_at (h ++ t) rest (k + 16) both_long, none, append-nil e) (append_assoc h t e)
+      let none : drop (length ((h ++ t) ++ rest) - (16 + k)) rest ≡ [] = drop_of_length-le rest {i = length ((h ++ t) ++ rest) - (16 + k)} (omega (arith, length-append (h ++ t) rest, both_long)) in
+      rw (second_is, take_at (h ++ t) rest (16 + k) both_long, drop_at (h ++ t) rest (16 + k) both_long, none, append-nil e) (append_assoc h t e)

@@ -20,13 +20,8 @@ use Rattle.exchange.specs.Record.{pair, tagged, record_of, rows, table_length, n
 use Rattle.exchange.specs.Calls.{write_order, write_call, no18, read_order, read_call, table_in}
 use Rattle.exchange.specs.Code.Header.{header_of}
 use Rattle.exchange.proofs.Fields.{Stands, framed-says, framed_passes, stretch_long, holding_by}
-use Rattle.exchange.proofs.Admitted.{Admitted, fits, write_says_lem, write_passes, nothing_after}
+use Rattle.exchange.proofs.Admitted.{Admitted, fits, write_says_lem, write_passes, nothing_after, tables}
 use Rattle.exchange.proofs.Parts.{parts, header_length, record_length_lem}
-
--- the table of an input that is read is the stretch
-tables : (input : List ℕ) → read_order input ≡ passed → table_in input ≡ stretch input
-unfolding table_in
-tables input e = rw e
 
 -- ---- reading then writing
 

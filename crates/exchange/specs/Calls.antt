@@ -2,20 +2,12 @@
 -- Assumes nothing.
 use Rattle.std.specs.Prelude.{List, [], ◌∷◌, ℕ, ◌+◌, ltb, length}
 use Rattle.verdict.specs.Told.{Told, passed, refused, refuse, ◌or◌}
-use Rattle.verdict.specs.Refusals.{paper, numbers, buffers}
-use Rattle.verdict.specs.Calls.{Says, refuses, gives, Outcome, after, call, Nothing}
-use Rattle.exchange.specs.declared.Writing.{Writing}
-use Rattle.exchange.specs.declared.Writing.TheVariants as W
-use Rattle.exchange.specs.declared.Reading.{Reading}
-use Rattle.exchange.specs.declared.Reading.TheVariants as R
+use Rattle.verdict.specs.Refusals.{numbers, buffers}
+use Rattle.verdict.specs.Calls.{gives, Outcome, after, call, Nothing}
 use Rattle.exchange.specs.declared.System.{System}
 use Rattle.exchange.specs.Record.{rows, table_length, record_length, record_of, stretch, end_at, framed, system_in, holding}
 
 -- ---- Write
-
-abbrev pub write_says : Writing → Says Nothing
-write_says W.Written = gives tt
-write_says (W.Refused r) = refuses (paper r)
 
 -- "When writing: 01's 1 to 6, where 5 is a target that isn't exactly the record's length"
 unfoldable pub write_order : ℕ → ℕ → ℕ → List ℕ → ℕ → Told
@@ -25,10 +17,6 @@ unfoldable pub write_call : ℕ → ℕ → ℕ → List ℕ → List ℕ → Ou
 write_call f n m t target = call (write_order f n m t (length target)) target (after (gives tt) (record_of f n m t))
 
 -- ---- Read: the input could not change
-
-abbrev pub read_says : Reading → Says System
-read_says (R.Found s) = gives s
-read_says (R.Refused r) = refuses (paper r)
 
 -- "18 bytes after the end": the first byte after
 unfoldable pub no18 : List ℕ → Told

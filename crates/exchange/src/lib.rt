@@ -8,15 +8,15 @@ ghost use Rattle.sharing.specs.Bounds.{most_rows};
 ghost use Rattle.verdict.specs.Told.{passed};
 ghost use Rattle.verdict.specs.Cells.{NonEmpty};
 ghost use Rattle.verdict.specs.Calls.{after};
-ghost use Rattle.verdict.specs.Code.Verdicts.{told};
+ghost use Rattle.verdict.specs.Code.Verdicts.{told, says};
 ghost use Rattle.exchange.specs.Record.{rows, table_length, record_of, number_at, field_at, framed, system_in, holding};
-ghost use Rattle.exchange.specs.Calls.{write_says, write_order, write_call, read_says, read_order, read_call, table_in};
+ghost use Rattle.exchange.specs.Calls.{write_order, write_call, read_order, read_call, table_in};
 ghost use Rattle.exchange.specs.Code.Header.{header_of};
 
-use verdict::{Refusal, Rows, Verdict};
+use verdict::{Refusal, Rows};
 
 // What a record holds: its numbers, and the length of its table.
-#[derive(Clone, Copy)]
+#[derive(Clone, Copy, Debug, PartialEq, Eq)]
 pub struct System {
     pub field: u64,
     pub shares: u64,
@@ -24,163 +24,119 @@ pub struct System {
     pub length: usize,
 }
 
-#[derive(Clone, Copy)]
-pub enum Writing {
-    Written,
-    Refused(Refusal),
-}
+impl System {
+    // m(m+1)n, which the table's length has to be
+    fn table_length(self) -> usize
+        requires { (self.shares ≤ 4) × (self.size ≤ most_rows) }
+        ensures { (result ≡ table_length self.shares self.size) × (result ≤ 37248) }
+    {
+        let m = self.size as usize;
+        m * (m + 1) * (self.shares as usize)
+    }
 
-#[derive(Clone, Copy)]
-pub enum Reading {
-    Found(System),
-    Refused(Refusal),
-}
+    fn rows(self) -> Rows
+        requires { (1 ≤ self.shares) × (self.size ≤ most_rows) }
+        ensures { (result ≡ rows self.shares self.size) × NonEmpty result }
+    {
+        Rows::Shared {
+            shares: self.shares as usize,
+            width: self.size as usize + 1,
+        }
+    }
 
-// m(m+1)n
-fn table_length(shares: u64, size: u64) -> usize
-    requires { (shares ≤ 4) × (size ≤ most_rows) }
-    ensures { (result ≡ table_length shares size) × (result ≤ 37248) }
-{
-    let m = size as usize;
-    m * (m + 1) * (shares as usize)
-}
-
-fn table_rows(shares: u64, size: u64) -> Rows
-    requires { (1 ≤ shares) × (size ≤ most_rows) }
-    ensures { (result ≡ rows shares size) × NonEmpty result }
-{
-    Rows::Shared {
-        shares: shares as usize,
-        width: size as usize + 1,
+    // All that stands before the table.
+    fn header(self) -> [u8; 16]
+        requires { (self.field ≤ 65535) × (self.shares ≤ 255) × (self.size ≤ 255) × (self.length ≤ 65535) }
+        ensures { result ≡ header_of self.field self.shares self.size self.length }
+    {
+        let f = (self.field as u16).to_be_bytes();
+        let k = (self.length as u16).to_be_bytes();
+        let n = self.shares as u8;
+        let m = self.size as u8;
+        [1, 0, 2, f[0], f[1], 2, 0, 1, n, 3, 0, 1, m, 4, k[0], k[1]]
     }
 }
 
 // ---- writing
 
 // 1 to 6
-fn write_check(field: u64, shares: u64, size: u64, table: &[u8], target: usize) -> Verdict
-    ensures { told result ≡ write_order field shares size table.now target }
+fn write_check(s: System, table: &[u8], target: usize) -> Result<(), Refusal>
+    ensures { told result ≡ write_order s.field s.shares s.size table.now target }
 {
-    let v = verdict::numbers(field, shares, size);
-    let Verdict::Pass = v else {
-        return v;
-    };
-    let wanted = table_length(shares, size);
-    let rows = table_rows(shares, size);
-    verdict::buffers(field, rows, wanted, table, wanted + 19, target)
-}
-
-// All that stands before the table.
-fn header(field: u64, shares: u64, size: u64, length: usize) -> [u8; 16]
-    requires { (field ≤ 65535) × (shares ≤ 255) × (size ≤ 255) × (length ≤ 65535) }
-    ensures { result ≡ header_of field shares size length }
-{
-    [
-        1,
-        0,
-        2,
-        (field / 256) as u8,
-        (field % 256) as u8,
-        2,
-        0,
-        1,
-        shares as u8,
-        3,
-        0,
-        1,
-        size as u8,
-        4,
-        (length / 256) as u8,
-        (length % 256) as u8,
-    ]
+    verdict::numbers(s.field, s.shares, s.size)?;
+    let wanted = s.table_length();
+    verdict::buffers(s.field, s.rows(), wanted, table, wanted + 19, target)
 }
 
 // The record, into a target of its length.
-fn fill(field: u64, shares: u64, size: u64, table: &[u8], target: &mut [u8])
-    requires field_bound { (field ≤ 65535) × (shares ≤ 255) × (size ≤ 255) × (length table.now ≤ 65535) }
-    requires target_len { length target.old ≡ length table.now + 19 }
-    ensures { target.new ≡ record_of field shares size table.now }
+fn fill(s: System, table: &[u8], target: &mut [u8])
+    requires s_bound { (s.field ≤ 65535) × (s.shares ≤ 255) × (s.size ≤ 255) × (s.length ≤ 65535) }
+    requires target_len { (length table.now ≡ s.length) × (length target.old ≡ s.length + 19) }
+    ensures { target.new ≡ record_of s.field s.shares s.size table.now }
 {
-    let end = table.len() + 16;
-    let before = header(field, shares, size, table.len());
-    let after: [u8; 3] = [255, 0, 0];
-    sharing::copy_into(&mut target[..16], &before[..]);
-    sharing::copy_into(&mut target[16..end], table);
-    sharing::copy_into(&mut target[end..], &after[..]);
+    let end = 16 + s.length;
+    target[..16].copy_from_slice(&s.header());
+    target[16..end].copy_from_slice(table);
+    target[end..].copy_from_slice(&[255, 0, 0]);
 }
 
 // The record of a system, into the target.
-pub fn write(field: u64, shares: u64, size: u64, table: &[u8], target: &mut [u8]) -> Writing
-    ensures { after (write_says result) target.new ≡ write_call field shares size table.now target.old }
+// stays: (a) the numbers one by one, in the signature that README shows; inside they are a System
+pub fn write(
+    field: u64,
+    shares: u64,
+    size: u64,
+    table: &[u8],
+    target: &mut [u8],
+) -> Result<(), Refusal>
+    ensures { after (says result) target.new ≡ write_call field shares size table.now target.old }
 {
-    match write_check(field, shares, size, table, target.len()) {
-        Verdict::Refuse(r) => Writing::Refused(r),
-        Verdict::Pass => {
-            fill(field, shares, size, table, target);
-            Writing::Written
-        }
-    }
+    let s = System {
+        field,
+        shares,
+        size,
+        length: table.len(),
+    };
+    write_check(s, table, target.len())?;
+    fill(s, table, target);
+    Ok(())
 }
 
 // ---- one record at the front of the input, whatever follows it
 
-fn wide(x: u8) -> usize
-    ensures { (result ≡ x) × (result ≤ 255) }
-{
-    x as usize
-}
-
 // The number that two bytes are, high byte first.
-fn number_at(input: &[u8], at: usize) -> usize
+#[tactic(auto, unfolding(crate::specs::Record::number_at))]
+fn number_at(input: &[u8], at: usize) -> u16
     requires { (at ≤ 65552) × (at + 2 ≤ length input.now) }
-    ensures { (result ≡ number_at input.now at) × (result ≤ 65535) }
+    ensures { result ≡ number_at input.now at }
 {
-    wide(input[at]) * 256 + wide(input[at + 1])
+    u16::from_be_bytes([input[at], input[at + 1]])
 }
 
 // The field at an offset: that it begins, its tag, its length, its body.
-fn field_at(input: &[u8], at: usize, tag: u8, least: u64, most: u64) -> Verdict
+// stays: (d) a tag and the two lengths that suit it are one line of `framed`, as in R-3's table; an enum of tags would only be turned back into these
+fn field_at(input: &[u8], at: usize, tag: u8, least: u64, most: u64) -> Result<(), Refusal>
     requires { at ≤ 65551 }
     ensures { told result ≡ field_at input.now at tag least most }
 {
-    if input.len() < at + 1 {
-        return Verdict::Refuse(Refusal::CutField(at));
-    }
-    if input[at] != tag {
-        return Verdict::Refuse(Refusal::BadTag(at));
-    }
-    if input.len() < at + 3 {
-        return Verdict::Refuse(Refusal::CutField(at));
-    }
+    let cut = Refusal::CutField(at);
+    verdict::refuse_if(input.len() < at + 1, cut)?;
+    verdict::refuse_if(input[at] != tag, Refusal::BadTag(at))?;
+    verdict::refuse_if(input.len() < at + 3, cut)?;
     let length = number_at(input, at + 1);
-    let unsuited = verdict::is_outside(least, most, length as u64);
-    let end = at + (3 + length);
-    let v = verdict::refuse_if(unsuited, Refusal::CutField(at));
-    let w = verdict::refuse_if(input.len() < end, Refusal::CutField(at));
-    verdict::or_else(v, w)
+    verdict::refuse_if(verdict::is_outside(least, most, u64::from(length)), cut)?;
+    verdict::refuse_if(input.len() < at + (3 + usize::from(length)), cut)
 }
 
 // 16 and 17: all five fields, in their order.
-pub fn framed(input: &[u8]) -> Verdict
+pub fn framed(input: &[u8]) -> Result<(), Refusal>
     ensures { told result ≡ framed input.now }
 {
-    let v = field_at(input, 0, 1, 2, 2);
-    let Verdict::Pass = v else {
-        return v;
-    };
-    let w = field_at(input, 5, 2, 1, 1);
-    let Verdict::Pass = w else {
-        return w;
-    };
-    let x = field_at(input, 9, 3, 1, 1);
-    let Verdict::Pass = x else {
-        return x;
-    };
-    let y = field_at(input, 13, 4, 0, 65535);
-    let Verdict::Pass = y else {
-        return y;
-    };
-    let end = 16 + number_at(input, 14);
+    field_at(input, 0, 1, 2, 2)?;
+    field_at(input, 5, 2, 1, 1)?;
+    field_at(input, 9, 3, 1, 1)?;
+    field_at(input, 13, 4, 0, 65535)?;
+    let end = 16 + usize::from(number_at(input, 14));
     field_at(input, end, 255, 0, 0)
 }
 
@@ -189,75 +145,52 @@ pub fn system_in(input: &[u8]) -> System
     requires { framed input.now ≡ passed }
     ensures { result ≡ system_in input.now }
 {
-    let field = number_at(input, 3) as u64;
-    let shares = wide(input[8]) as u64;
-    let size = wide(input[12]) as u64;
-    let length = number_at(input, 14);
     System {
-        field,
-        shares,
-        size,
-        length,
+        field: u64::from(number_at(input, 3)),
+        shares: u64::from(input[8]),
+        size: u64::from(input[12]),
+        length: usize::from(number_at(input, 14)),
     }
 }
 
 // 1 to 4 and 6, of what the fields hold.
-pub fn holding(input: &[u8]) -> Verdict
+pub fn holding(input: &[u8]) -> Result<(), Refusal>
     requires { framed input.now ≡ passed }
     ensures { told result ≡ holding input.now }
 {
     let s = system_in(input);
-    let v = verdict::numbers(s.field, s.shares, s.size);
-    let Verdict::Pass = v else {
-        return v;
-    };
-    let wanted = table_length(s.shares, s.size);
-    let rows = table_rows(s.shares, s.size);
-    let w = verdict::no4(wanted, s.length);
-    let Verdict::Pass = w else {
-        return w;
-    };
-    let end = 16 + s.length;
-    verdict::no6(s.field, rows, &input[16..end])
+    verdict::numbers(s.field, s.shares, s.size)?;
+    verdict::no4(s.table_length(), s.length)?;
+    verdict::no6(s.field, s.rows(), &input[16..16 + s.length])
 }
 
 // ---- reading
 
 // 16, 17, 18, 1 to 4, 6
-fn read_check(input: &[u8]) -> Verdict
+fn read_check(input: &[u8]) -> Result<(), Refusal>
     ensures { told result ≡ read_order input.now }
 {
-    let v = framed(input);
-    let Verdict::Pass = v else {
-        return v;
-    };
-    let end = 16 + number_at(input, 14);
+    framed(input)?;
+    let end = 16 + usize::from(number_at(input, 14));
     let next = 3 + end;
-    if next < input.len() {
-        return Verdict::Refuse(Refusal::PastEnd(next));
-    }
+    verdict::refuse_if(next < input.len(), Refusal::PastEnd(next))?;
     holding(input)
 }
 
 // The numbers of a record, and the length of its table.
-pub fn read(input: &[u8]) -> Reading
-    ensures { after (read_says result) tt ≡ read_call input.now }
+pub fn read(input: &[u8]) -> Result<System, Refusal>
+    ensures { after (says result) tt ≡ read_call input.now }
 {
-    match read_check(input) {
-        Verdict::Refuse(r) => Reading::Refused(r),
-        Verdict::Pass => Reading::Found(system_in(input)),
-    }
+    read_check(input)?;
+    Ok(system_in(input))
 }
 
 // The table of a record, as the stretch of the caller's own bytes; empty where `read` refuses.
 pub fn table_in(input: &[u8]) -> &[u8]
     ensures { result.now ≡ table_in input.now }
 {
-    match read_check(input) {
-        Verdict::Refuse(_) => &input[..0],
-        Verdict::Pass => {
-            let end = 16 + number_at(input, 14);
-            &input[16..end]
-        }
+    match read(input) {
+        Ok(s) => &input[16..16 + s.length],
+        Err(_) => &[],
     }
 }

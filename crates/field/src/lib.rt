@@ -2,10 +2,12 @@
 // The ground of the map: it stands on nothing. An operation takes any bytes; a byte of 16 or more counts in F16 as what it leaves.
 #![tactic(auto)]
 
-ghost use Rattle.std.specs.Prelude.{◌≡◌, ◌%◌};
+ghost use Rattle.std.specs.Prelude.{◌≡◌, ◌<◌, ◌≤◌, ◌%◌, ◌^◌};
 ghost use Rattle.field.specs.Field.{F16, F256, inv, field_of, sub, draw, RowOf};
 ghost use Rattle.field.specs.Code.Power.{power254};
+ghost use Rattle.field.specs.Code.Shift.{shift_add};
 
+// stays: what may not change (the paper's form: constant tables in field, MUL16 indexed by both factors).
 const MUL16: [[u8; 16]; 16] = [
     [0, 0, 0, 0, 0, 0, 0, 0, 0, 0, 0, 0, 0, 0, 0, 0],
     [0, 1, 2, 3, 4, 5, 6, 7, 8, 9, 10, 11, 12, 13, 14, 15],
@@ -36,7 +38,7 @@ const CHAIN: [u8; 11] = [0, 0, 2, 3, 2, 5, 6, 7, 8, 4, 1];
 pub fn row16(a: u8) -> [u8; 16]
     ensures { RowOf a result }
 {
-    let i = (a % 16) as usize;
+    let i = usize::from(a % 16);
     MUL16[i]
 }
 
@@ -56,59 +58,53 @@ pub fn unseen_one(a: u8) -> u8
     1 + unseen_zero(a)
 }
 
-// The product of two elements by shifting and adding, with no branch and no table, where both may be secret: p + x·y is the product at each turn.
-fn shift16(a: u8, b: u8) -> u8
-    ensures { result ≡ F16.mul a b }
-{
-    let one = unseen_one(a);
-    let mut p: u8 = 0;
-    let mut x = a % 16;
-    let mut y = b % 16;
-    let mut i: usize = 0;
-    while i < 4 {
-        p ^= (y & one) * x;
-        x = ((x << 1) % 16) ^ ((x >> 3) * 3);
-        y >>= 1;
-        i += 1;
-    }
-    p
-}
-
-// The same for F256, where the compiler has made no branch.
-fn mul256(a: u8, b: u8) -> u8
-    ensures { result ≡ F256.mul a b }
+// The product of two elements of W bits by shifting and adding, with no branch and no table, where both may be secret: p + x·y is the product
+// at each turn. TAIL is what x^W leaves. one is 1; the caller chooses whether the compiler may know that.
+fn shift_add<const W: usize, const TAIL: u8>(one: u8, a: u8, b: u8) -> u8
+    requires field { (0 < W) × (W ≤ 8) × (TAIL < 2 ^ W) }
+    requires factors { (one ≡ 1) × (a < 2 ^ W) }
+    ensures { result ≡ shift_add W TAIL W a b }
 {
     let mut p: u8 = 0;
     let mut x = a;
     let mut y = b;
-    let mut i: usize = 0;
-    while i < 8 {
-        p ^= (y & 1) * x;
-        x = (x << 1) ^ ((x >> 7) * 0x1b);
+    for _ in 0..W {
+        p ^= (y & one) * x;
+        x = ((x << 1) & (255 >> (8 - W))) ^ ((x >> (W - 1)) * TAIL);
         y >>= 1;
-        i += 1;
     }
     p
+}
+
+// In F16 by a 1 that the compiler does not see through.
+fn shift16(a: u8, b: u8) -> u8
+    ensures { result ≡ F16.mul a b }
+{
+    shift_add::<4, 3>(unseen_one(a), a % 16, b % 16)
+}
+
+// In F256, where the compiler has made no branch.
+fn mul256(a: u8, b: u8) -> u8
+    ensures { result ≡ F256.mul a b }
+{
+    shift_add::<8, 0x1b>(1, a, b)
 }
 
 fn inv16(a: u8) -> u8
     ensures { result ≡ inv F16 a }
 {
-    let i = (a % 16) as usize;
+    let i = usize::from(a % 16);
     INV16[i]
 }
 
-// In a loop: written out, eleven products take more room than the table of inverses that they stand for. The chain is copied before it, since
-// a constant array is built anew at each use.
+// In a loop: written out, eleven products take more room than the table of inverses that they stand for.
 fn power254(a: u8) -> u8
     ensures { result ≡ power254 a }
 {
-    let chain = CHAIN;
     let mut powers = [0u8; 12];
     powers[0] = a;
-    for i in 0..11 {
-        let k = chain[i] as usize;
-        powers[i + 1] = mul256(powers[i], powers[k]);
+    for (i, k) in CHAIN.iter().enumerate() {
+        powers[i + 1] = mul256(powers[i], powers[usize::from(*k)]);
     }
     powers[11]
 }
@@ -121,6 +117,7 @@ fn inv256(a: u8) -> u8
 }
 
 // With one mask and no choice after it: a loop over this is one loop to the compiler.
+// stays: what may not change (a field goes by its number in the contracts of add, mul, inverse and reduce, and in hostozaro.h).
 pub fn add(f: u64, a: u8, b: u8) -> u8
     ensures { result ≡ (field_of f).add a b }
 {
@@ -129,6 +126,7 @@ pub fn add(f: u64, a: u8, b: u8) -> u8
 }
 
 // Sum and difference are both exclusive or.
+// stays: what may not change (01's sub beside its add, in the contracts of sub and of sharing's refreshes).
 pub fn sub(f: u64, a: u8, b: u8) -> u8
     ensures { result ≡ sub (field_of f) a b }
 {
@@ -157,6 +155,7 @@ pub fn reduce(f: u64, x: u8) -> u8
 }
 
 // The draw that a byte of a tape is.
+// stays: what may not change (01's draw, which another field than these two need not take modulo q; contract of draw).
 pub fn draw(f: u64, byte: u8) -> u8
     ensures { result ≡ draw (field_of f) byte }
 {

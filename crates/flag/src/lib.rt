@@ -5,9 +5,11 @@
 
 ghost use Rattle.std.specs.Prelude.{◌≡◌, ◌+◌, ◌-◌, ◌*◌, ◌<◌, ◌≤◌, length, drop};
 ghost use Rattle.field.specs.Field.{Binary, field_of};
-ghost use Rattle.sharing.specs.Run.{run, before, pairs, pairs_of, over_pairs};
+ghost use Rattle.sharing.specs.Run.{run, pairs, over_pairs};
 ghost use Rattle.flag.specs.Flag.{and_of, folds, fold_draws, flag_draws, complemented, shifted, fresh_shift, fold, fold_turn, low_bits, zero_flag};
 ghost use Rattle.flag.specs.Code.Passes.{cross_turn, cross_terms, own_terms, sum_turn, reduced, summed};
+
+use sharing::PairRule;
 
 // How many folds the zero flag has.
 fn fold_count(f: u64) -> usize
@@ -38,7 +40,7 @@ fn complement(f: u64, s: &mut [u8])
     requires s_nonzero { 0 < length s.old }
     ensures { s.new ≡ complemented (field_of f) s.old }
 {
-    let ones: u8 = if f == 16 { 15 } else { 255 };
+    let ones = field::reduce(f, 255);
     sharing::add_at(f, s, 0, ones);
 }
 
@@ -46,123 +48,134 @@ fn complement(f: u64, s: &mut [u8])
 fn low_bits(s: &mut [u8])
     ensures { s.new ≡ low_bits s.old }
 {
-    for i in 0..s.len() {
-        s[i] %= 2;
+    for x in s.iter_mut() {
+        *x %= 2;
     }
 }
 
 // t becomes each share's w bits, shifted right by h.
-fn shift(f: u64, n: usize, t: &mut [u8], s: &[u8], h: u8)
-    requires { (h < 8) × (n ≡ length s.now) × (length t.old ≡ length s.now) }
+fn shift<const N: usize>(f: u64, t: &mut [u8], s: &[u8], h: u8)
+    requires { (h < 8) × (length s.now ≡ N) × (length t.old ≡ N) }
     ensures { t.new ≡ shifted (field_of f) h s.now }
 {
-    for i in 0..n {
+    // stays: the new form misses a bar of speed (over its slices, here and in reduce, a flag of two shares takes 234 instructions for 218).
+    for i in 0..N {
         t[i] = field::reduce(f, s[i]) >> h;
     }
 }
 
-// The pairs of i; the first of them is pair number at. y_k becomes z_k and the term of a_i and b_j.
-fn cross_of(n: usize, y: &mut [u8], z: &[u8], a: &[u8], b: &[u8], i: usize, at: usize)
-    requires n_bound { (n ≤ 4) × (length a.now ≡ n) × (length b.now ≡ n) × (pairs n ≤ length y.old) × (pairs n ≤ length z.now) }
-    requires i_lt_n { (i < n) × (at ≡ before n i) }
-    ensures { y.new ≡ pairs_of (cross_turn z.now a.now b.now) n i y.old }
-{
-    let m = n - 1 - i;
-    for v in 0..m {
-        let j = i + 1 + v;
-        let k = at + v;
-        y[k] = z[k] ^ (a[i] & b[j]);
+// y_k becomes z_k and the term of a_i and b_j.
+#[derive(Clone, Copy)]
+struct CrossTerms<'a> {
+    z: &'a [u8],
+    a: &'a [u8],
+    b: &'a [u8],
+}
+
+impl<'a> PairRule for CrossTerms<'a> {
+    ghost Reaches = { λ r k i j len. (k < len) × (k < length r.z.now) × (i < length r.a.now) × (j < length r.b.now) };
+
+    ghost turn = { λ r k i j y. cross_turn r.z.now r.a.now r.b.now k i j y };
+
+    fn turn(&self, y: &mut [u8], k: usize, i: usize, j: usize) {
+        y[k] = self.z[k] ^ (self.a[i] & self.b[j]);
     }
 }
 
-fn cross(n: usize, y: &mut [u8], z: &[u8], a: &[u8], b: &[u8])
-    requires { (n ≤ 4) × (length a.now ≡ n) × (length b.now ≡ n) × (pairs n ≤ length y.old) × (pairs n ≤ length z.now) }
-    ensures { y.new ≡ over_pairs (cross_turn z.now a.now b.now) n y.old }
+fn cross<const N: usize>(y: &mut [u8], z: &[u8], a: &[u8], b: &[u8])
+    requires { (N ≤ 4) × (length a.now ≡ N) × (length b.now ≡ N) × (pairs N ≤ length y.old) × (pairs N ≤ length z.now) }
+    ensures { y.new ≡ over_pairs (cross_turn z.now a.now b.now) N y.old }
 {
-    let mut at: usize = 0;
-    for i in 0..n {
-        cross_of(n, y, z, a, b, i, at);
-        at += n - 1 - i;
-    }
+    sharing::over_pairs(&CrossTerms { z, a, b }, N, y);
 }
 
 // s_i becomes the term of s_i and t_i, and old is s as it was.
-fn own_terms(n: usize, s: &mut [u8], old: &mut [u8], t: &[u8])
-    requires { (n ≡ length s.old) × (length old.old ≡ length s.old) × (length t.now ≡ length s.old) }
+fn own_terms<const N: usize>(s: &mut [u8], old: &mut [u8], t: &[u8])
+    requires { (length s.old ≡ N) × (length old.old ≡ N) × (length t.now ≡ N) }
     ensures { (s.new ≡ own_terms s.old t.now) × (old.new ≡ s.old) }
 {
-    for i in 0..n {
+    // stays: the new form is no plainer (three slices go in step, and N is a number here, as in shift).
+    for i in 0..N {
         let x = s[i];
         old[i] = x;
         s[i] = x & t[i];
     }
 }
 
-// The pairs of i: z_k joins share i, and y_k share j. In And these are the pair's draw and what it became; where both are the draw, the pair
-// is refreshed.
-fn sum_of(n: usize, out: &mut [u8], z: &[u8], y: &[u8], i: usize, at: usize)
-    requires { (length out.old ≡ n) × (i < n) × (n ≤ 4) × (at ≡ before n i) × (pairs n ≤ length z.now) × (pairs n ≤ length y.now) }
-    ensures { out.new ≡ pairs_of (sum_turn z.now y.now) n i out.old }
-{
-    let m = n - 1 - i;
-    for v in 0..m {
-        let j = i + 1 + v;
-        let k = at + v;
-        out[i] ^= z[k];
-        out[j] ^= y[k];
+// z_k joins share i, and y_k share j. In And these are the pair's draw and what it became; where both are the draw, the pair is refreshed.
+#[derive(Clone, Copy)]
+struct PairSums<'a> {
+    z: &'a [u8],
+    y: &'a [u8],
+}
+
+impl<'a> PairRule for PairSums<'a> {
+    ghost Reaches = { λ r k i j len. (i < len) × (j < len) × (k < length r.z.now) × (k < length r.y.now) };
+
+    ghost turn = { λ r k i j out. sum_turn r.z.now r.y.now k i j out };
+
+    fn turn(&self, out: &mut [u8], k: usize, i: usize, j: usize) {
+        out[i] ^= self.z[k];
+        out[j] ^= self.y[k];
     }
 }
 
-fn sum_pairs(n: usize, out: &mut [u8], z: &[u8], y: &[u8])
-    requires { (length out.old ≡ n) × (n ≤ 4) × (pairs n ≤ length z.now) × (pairs n ≤ length y.now) }
-    ensures { out.new ≡ over_pairs (sum_turn z.now y.now) n out.old }
+fn sum_pairs<const N: usize>(out: &mut [u8], z: &[u8], y: &[u8])
+    requires { (length out.old ≡ N) × (N ≤ 4) × (pairs N ≤ length z.now) × (pairs N ≤ length y.now) }
+    ensures { out.new ≡ over_pairs (sum_turn z.now y.now) N out.old }
 {
-    let mut at: usize = 0;
-    for i in 0..n {
-        sum_of(n, out, z, y, i, at);
-        at += n - 1 - i;
-    }
+    sharing::over_pairs(&PairSums { z, y }, N, out);
 }
 
 // Each share modulo q.
-fn reduce(f: u64, n: usize, s: &mut [u8])
-    requires { n ≡ length s.old }
+fn reduce<const N: usize>(f: u64, s: &mut [u8])
+    requires { length s.old ≡ N }
     ensures { s.new ≡ reduced (field_of f) s.old }
 {
-    for i in 0..n {
+    // stays: the new form misses a bar of speed (as in shift).
+    for i in 0..N {
         s[i] = field::reduce(f, s[i]);
     }
 }
 
 // Of a fold, what comes before the sharing is stored to: t becomes the shifted shares, refreshed pair by pair with ds, and each first cross
-// term joins its draw, in x. z are And's draws. The refresh goes by the pass that And has, and not by sharing's, so that n is a number in it too.
-fn first_terms(f: u64, n: usize, t: &mut [u8], x: &mut [u8], s: &[u8], h: u8, ds: &[u8], z: &[u8])
+// term joins its draw, in x. z are And's draws. The refresh goes by the pass that And has, and not by sharing's, so that N is a number in it too.
+fn first_terms<const N: usize>(
+    f: u64,
+    t: &mut [u8],
+    x: &mut [u8],
+    s: &[u8],
+    h: u8,
+    ds: &[u8],
+    z: &[u8],
+)
     requires binary { Binary f }
-    requires h_bound { (h < 8) × (2 ≤ n) × (n ≤ 4) × (n ≡ length s.now) × (length t.old ≡ n) × (pairs n ≤ length ds.now) × (pairs n ≤ length z.now) × (pairs n ≤ length x.old) }
+    requires h_bound { (h < 8) × (2 ≤ N) × (N ≤ 4) × (length s.now ≡ N) × (length t.old ≡ N) × (pairs N ≤ length ds.now) × (pairs N ≤ length z.now) × (pairs N ≤ length x.old) }
     ensures t_after { t.new ≡ fresh_shift (field_of f) h ds.now s.now }
-    ensures x_after { x.new ≡ cross_terms n z.now s.now t.new x.old }
+    ensures x_after { x.new ≡ cross_terms N z.now s.now t.new x.old }
 {
-    shift(f, n, t, s, h);
-    sum_pairs(n, t, ds, ds);
-    reduce(f, n, t);
-    cross(n, x, z, s, t);
+    shift::<N>(f, t, s, h);
+    sum_pairs::<N>(t, ds, ds);
+    reduce::<N>(f, t);
+    cross::<N>(x, z, s, t);
 }
 
 // And what comes after: s is stored to; then each second cross term joins what stands in x, in y; then s is stored to again.
-fn second_terms(f: u64, n: usize, s: &mut [u8], t: &[u8], x: &[u8], y: &mut [u8], z: &[u8])
-    requires { (2 ≤ n) × (n ≤ 4) × (n ≡ length s.old) × (length t.now ≡ n) × (pairs n ≤ length z.now) × (pairs n ≤ length x.now) × (pairs n ≤ length y.old) }
-    ensures { s.new ≡ summed (field_of f) n z.now s.old t.now x.now y.old }
+fn second_terms<const N: usize>(f: u64, s: &mut [u8], t: &[u8], x: &[u8], y: &mut [u8], z: &[u8])
+    requires { (2 ≤ N) × (N ≤ 4) × (length s.old ≡ N) × (length t.now ≡ N) × (pairs N ≤ length z.now) × (pairs N ≤ length x.now) × (pairs N ≤ length y.old) }
+    ensures { s.new ≡ summed (field_of f) N z.now s.old t.now x.now y.old }
 {
     let mut old = [0u8; 4];
-    own_terms(n, s, &mut old[..n], t);
-    cross(n, y, x, t, &old[..n]);
-    sum_pairs(n, s, z, y);
-    reduce(f, n, s);
+    own_terms::<N>(s, &mut old[..N], t);
+    cross::<N>(y, x, t, &old[..N]);
+    sum_pairs::<N>(s, z, y);
+    reduce::<N>(f, s);
 }
 
-// The passes of a fold, with a number for n in each call, so that the compiler unrolls the loops. It has to take x, y and s for parts of one
-// memory, so that in the machine too no sum of two cross terms ever stands without the draw.
-fn passes(
+// The passes of a fold, with a number for n, so that the compiler unrolls the loops. It has to take x, y and s for parts of one memory, so that
+// in the machine too no sum of two cross terms ever stands without the draw.
+// stays: what may not change (docs/OBJECT.md, the order: in one struct x and y would be known to lie apart).
+fn passes<const N: usize>(
     f: u64,
     s: &mut [u8],
     t: &mut [u8],
@@ -173,21 +186,12 @@ fn passes(
     z: &[u8],
 )
     requires binary { Binary f }
-    requires h_bound { (h < 8) × (2 ≤ length s.old) × (length s.old ≤ 4) × (length t.old ≡ length s.old) × (pairs (length s.old) ≤ length ds.now) }
-    requires s_in_bounds { (pairs (length s.old) ≤ length z.now) × (pairs (length s.old) ≤ length x.old) × (pairs (length s.old) ≤ length y.old) }
+    requires h_bound { (h < 8) × (2 ≤ N) × (N ≤ 4) × (length s.old ≡ N) × (length t.old ≡ N) × (pairs N ≤ length ds.now) }
+    requires s_in_bounds { (pairs N ≤ length z.now) × (pairs N ≤ length x.old) × (pairs N ≤ length y.old) }
     ensures { s.new ≡ and_of (field_of f) z.now s.old (fresh_shift (field_of f) h ds.now s.old) }
 {
-    let n = s.len();
-    if n == 2 {
-        first_terms(f, 2, t, x, s, h, ds, z);
-        second_terms(f, 2, s, t, x, y, z);
-    } else if n == 3 {
-        first_terms(f, 3, t, x, s, h, ds, z);
-        second_terms(f, 3, s, t, x, y, z);
-    } else {
-        first_terms(f, 4, t, x, s, h, ds, z);
-        second_terms(f, 4, s, t, x, y, z);
-    }
+    first_terms::<N>(f, t, x, s, h, ds, z);
+    second_terms::<N>(f, s, t, x, y, z);
 }
 
 // One fold of the flag: s becomes And(s, t), t being s shifted right by h and refreshed. x and y are lent to work in.
@@ -199,8 +203,13 @@ fn fold(f: u64, s: &mut [u8], x: &mut [u8], y: &mut [u8], h: u8, ds: &[u8])
 {
     let n = s.len();
     let first = sharing::pair_count(n);
+    let z = &ds[first..];
     let mut t = [0u8; 4];
-    passes(f, s, &mut t[..n], x, y, h, ds, &ds[first..]);
+    match n {
+        2 => passes::<2>(f, s, &mut t[..2], x, y, h, ds, z),
+        3 => passes::<3>(f, s, &mut t[..3], x, y, h, ds, z),
+        _ => passes::<4>(f, s, &mut t[..], x, y, h, ds, z),
+    }
 }
 
 // The last two folds of the flag: h is 2, then 1.
@@ -216,6 +225,7 @@ fn fold_twice(f: u64, s: &mut [u8], x: &mut [u8], y: &mut [u8], ds: &[u8])
 }
 
 // The folds of the flag: h is half the width, then half of that, down to 1.
+// stays: what may not change (docs/OBJECT.md: fold stays a call of its own; called in one place, in a loop over the widths, it is inlined).
 fn fold_all(f: u64, s: &mut [u8], ds: &[u8])
     requires binary { Binary f }
     requires in_bounds { (2 ≤ length s.old) × (length s.old ≤ 4) × (flag_draws f (length s.old) ≤ length ds.now) }

@@ -3,21 +3,20 @@
 use mathlib.Core.Bool.{Bool, true, false}
 use mathlib.Core.Logic.{◌⊎◌, ⊎_elim}
 use mathlib.Core.List.{List}
-use mathlib.Core.Path.{◌≡◌}
+use mathlib.Core.Path.{◌≡◌, refl}
 use Prim.Native.Nat.{ℕ}
 use borrow.Author.Tests.{eq-eqb, ne_eqb}
-use Rattle.course.specs.declared.Progress.{Progress}
+use Rattle.std.specs.Prelude.{Result, Ok, Err}
 use Rattle.walk.specs.Act.{Held}
+use Rattle.verdict.specs.declared.Refusal.{Refusal}
+use Rattle.verdict.specs.Code.Verdicts.{says}
+use Rattle.plain.specs.declared.Ending.{Ending}
+use Rattle.plain.specs.Calls.{answer, plain_says}
 use Rattle.verdict.specs.Told.{Line}
 use Rattle.verdict.specs.Calls.{Says, refuses, gives, Outcome, after, Nothing}
-use Rattle.solver.specs.Calls.{Stride, Lent, lent}
-use Rattle.pattern.specs.declared.WideProgress.{WideProgress}
-use Rattle.wide.specs.WideCalls as Wide
 use Rattle.host.specs.declared.replies.Reply.{Reply}
-use Rattle.host.specs.Words.{words_of, kept}
-use Rattle.host.specs.WideWords.{wide_kept}
-use Rattle.host.specs.Replies.{refusal_reply, reply, four_of, said, fresh_reply, stride_reply, begun_reply, wide_stride_reply}
-use Rattle.host.specs.Faces.{Back, back, handed, worded, words_right, start_handed, recorded, step_handed, begin_handed, wide_step_handed}
+use Rattle.host.specs.Replies.{refusal_reply, four_of, said, fresh_reply, plain_reply}
+use Rattle.host.specs.Faces.{Back, back, handed, worded, words_right, start_handed, recorded, step_handed}
 
 module _ {L : Type 0} where
   pub words_wrong : (right : Bool) (found : L) (answer : List ℕ) (does : Back L) → right ≡ false → back 99 found answer ≡ worded right found answer does
@@ -48,28 +47,28 @@ module _ (code : ℕ) (answer : List ℕ) (r : Reply) (so : Said code answer r) 
   unfolding handed
   hands f o s l e h = rw (so.0, so.1, h, ← e)
 
-  pub hands_fresh : (w v : List ℕ) (o : Outcome Progress Nothing) (s : Says Progress) (p : Progress) → after s tt ≡ o → s ≡ gives p
-      → r ≡ reply 7 0 0 0 0 → v ≡ words_of p → back code v answer ≡ start_handed w o.says
-  unfolding start_handed said fresh_reply
-  hands_fresh w v o s p e g h k = rw (so.0, so.1, h, k, ← e, g)
+  pub hands_fresh : {P : Type 0} (words : P → List ℕ) (w v : List ℕ) (o : Outcome P Nothing) (p : P) → after (gives p) tt ≡ o
+      → r ≡ fresh_reply → v ≡ words p → back code v answer ≡ start_handed words w o.says
+  unfolding start_handed
+  hands_fresh words w v o p e h k = rw (so.0, so.1, h, k, ← e)
 
-  pub hands_no_record : (w : List ℕ) (o : Outcome Progress Nothing) (s : Says Progress) (l : Line) → after s tt ≡ o → s ≡ refuses l
-      → r ≡ refusal_reply l → back code w answer ≡ start_handed w o.says
-  unfolding start_handed said
-  hands_no_record w o s l e g h = rw (so.0, so.1, h, ← e, g)
+  pub hands_no_record : {P : Type 0} (words : P → List ℕ) (w : List ℕ) (o : Outcome P Nothing) (l : Line) → after (refuses l) tt ≡ o
+      → r ≡ refusal_reply l → back code w answer ≡ start_handed words w o.says
+  unfolding start_handed
+  hands_no_record words w o l e h = rw (so.0, so.1, h, ← e)
 
-  pub hands_step : (w v : List ℕ) (o : Outcome Stride Lent) (s : Says Stride) (p : Progress) (h : Held) → after s (lent p h) ≡ o
-      → r ≡ said stride_reply s → v ≡ kept r.code w p → back code (recorded v h) answer ≡ step_handed w o
-  unfolding step_handed
-  hands_step w v o s p h e g k = rw (so.0, so.1, k, g, ← e)
+  module _ {A L : Type 0} (f : A → Reply) (words : L → List ℕ) (lent_to : L → Held) (w : List ℕ) (o : Outcome A L) (left : L) where
+    pub hands_step : (v : List ℕ) (a : A) → after (gives a) left ≡ o → r ≡ f a → v ≡ words left
+        → back code (recorded v (lent_to left)) answer ≡ step_handed f words lent_to w o
+    unfolding step_handed
+    hands_step v a e g k = rw (so.0, so.1, k, g, ← e)
 
-  pub hands_begun : (w v : List ℕ) (o : Outcome Wide.Begun WideProgress) (s : Says Wide.Begun) (p : WideProgress) → after s p ≡ o
-      → r ≡ said begun_reply s → v ≡ wide_kept r.code w p → back code v answer ≡ begin_handed w o
-  unfolding begin_handed
-  hands_begun w v o s p e g k = rw (so.0, so.1, k, g, ← e)
+    pub hands_no_step : (l : Line) → after (refuses l) left ≡ o → r ≡ refusal_reply l
+        → back code (recorded w (lent_to left)) answer ≡ step_handed f words lent_to w o
+    unfolding step_handed
+    hands_no_step l e g = rw (so.0, so.1, g, ← e)
 
-  pub hands_wide_step : (w v : List ℕ) (o : Outcome Wide.Stride Wide.Lent) (s : Says Wide.Stride) (p : WideProgress) (h : Held)
-      → after s (Wide.lent p h) ≡ o → r ≡ said wide_stride_reply s → v ≡ wide_kept r.code w p
-      → back code (recorded v h) answer ≡ wide_step_handed w o
-  unfolding wide_step_handed
-  hands_wide_step w v o s p h e g k = rw (so.0, so.1, k, g, ← e)
+-- what the plain solve came to, as the code says it and as the definition does
+pub plain_said : (x : Result Ending Refusal) → said (λ e. plain_reply (answer e)) (says x) ≡ said plain_reply (plain_says x)
+plain_said (Ok e) = refl
+plain_said (Err r) = refl

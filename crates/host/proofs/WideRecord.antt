@@ -8,7 +8,7 @@ use Prim.Native.Nat.{ℕ, zero, suc, ◌+◌, ◌-◌, ◌≤◌, ◌<◌}
 use native.Mathlib.Omega.{arith}
 use borrow.Author.Tests.{eq-eqb, ne_eqb, le-leb, lt-leb, eqb-true, ltb-true, ltb-false}
 use lib.Dec.{eqb, leb, ltb}
-use lib.ListN.{length, get_or, set, take, drop, length-append, length-drop, length-map, drop_of_length-le, get_or-map}
+use lib.ListN.{length, get_or, take, drop, length-append, length-drop, length-map, drop_of_length-le, get_or-map}
 use lib.Seq.{take_at, drop_at, get_or-take, get_or-drop, length-take-le}
 use Rattle.sharing.specs.Run.{tab}
 use Rattle.sharing.proofs.Loops.{rest}
@@ -26,17 +26,7 @@ use Rattle.pattern.proofs.Ascending.{not_over}
 use Rattle.pattern.proofs.Standing.{Kept, kept-says}
 use Rattle.host.specs.declared.words.Spot.{Spot}
 use Rattle.host.specs.Words.{place_of, step_spot, without}
-use Rattle.host.specs.WideWords.{widened, wide_place_of, wide_spot_of, byte_of, bytes_of, wide_of, head_of, wide_words_of, wide_kept}
-use Rattle.host.proofs.Record.{eight_set}
-
-pub ten_set : (l : List ℕ) (a b c d e f g i j k : ℕ) → length l ≡ 10
-    → set (set (set (set (set (set (set (set (set (set l 0 a) 1 b) 2 c) 3 d) 4 e) 5 f) 6 g) 7 i) 8 j) 9 k
-    ≡ a ∷ b ∷ c ∷ d ∷ e ∷ f ∷ g ∷ i ∷ j ∷ k ∷ []
-ten_set [] a b c d e f g i j k h = absurd (omega arith)
-ten_set (p ∷ []) a b c d e f g i j k h = absurd (omega arith)
-ten_set (p ∷ q ∷ l) a b c d e f g i j k h =
-    let n : length l ≡ 8 = omega arith in
-    ap (λ (t : List ℕ). a ∷ b ∷ t) (eight_set l c d e f g i j k n)
+use Rattle.host.specs.WideWords.{widened, wide_place_of, wide_spot_of, byte_of, bytes_of, wide_of, head_of, wide_words_of}
 
 pub head_length : (o : WideOrder) (s : Spot) (mask nonzero found : ℕ) → length (head_of o s mask nonzero found) ≡ 10
 unfolding head_of
@@ -102,16 +92,6 @@ bytes_again (x ∷ s) h =
 pub wide_again : (p : WideProgress) → Below 256 p.pivots.columns → wide_of (wide_words_of p) ≡ p
 unfolding wide_of wide_words_of head_of
 wide_again p h = rw (wide_place_again p.place, bytes_again _ h)
-
--- the words after a call: as found on a refusal, else the record's
-module _ (code : ℕ) (found : List ℕ) (p : WideProgress) where
-  pub wide_kept_found : code ≡ 0 → found ≡ wide_kept code found p
-  unfolding wide_kept
-  wide_kept_found e = rw (eq-eqb _ _ e)
-
-  pub wide_kept-next : (code ≡ 0 → ⊥) → wide_words_of p ≡ wide_kept code found p
-  unfolding wide_kept
-  wide_kept-next n = rw (ne_eqb _ _ n)
 
 -- a slot that is no byte is refused by 10, whatever the other words say: of kept pivots no slot is above the columns
 zeros-at : (s : List ℕ) → zeros s ≡ true → (i : ℕ) → get_or s i 0 ≡ 0

@@ -3,19 +3,17 @@
 use Rattle.std.specs.Prelude.{Bool, ◌&&◌, List, ℕ, eqb, length}
 use Rattle.field.specs.Field.{pick}
 use Rattle.course.specs.declared.Order.{Order}
-use Rattle.course.specs.declared.Progress.{Progress}
 use Rattle.walk.specs.Act.{Held}
 use Rattle.verdict.specs.Calls.{Says, refuses, gives, Outcome, Nothing}
-use Rattle.solver.specs.Calls.{Stride, Lent, start_call, counts_call, deal_call, gather_call, solve_call, step_call, wanted_call}
+use Rattle.solver.specs.Calls.{start_call, counts_call, deal_call, gather_call, solve_call, step_call, wanted_call}
 use Rattle.plain.specs.Calls.{plain_call}
 use Rattle.exchange.specs.Calls.{write_call, read_call}
 use Rattle.pattern.specs.declared.WideOrder.{WideOrder}
-use Rattle.pattern.specs.declared.WideProgress.{WideProgress}
 use Rattle.wide.specs.WideCalls as Wide
 use Rattle.host.specs.declared.replies.Reply.{Reply}
-use Rattle.host.specs.Words.{progress_of, words_of, kept}
-use Rattle.host.specs.WideWords.{wide_of, wide_kept}
-use Rattle.host.specs.Replies.{four_of, said, fresh_reply, counts_reply, full_reply, ending_reply, stride_reply, wanted_reply, plain_reply, written_reply, system_reply, begun_reply, wide_stride_reply, wide_ending_reply}
+use Rattle.host.specs.Words.{progress_of, words_of}
+use Rattle.host.specs.WideWords.{wide_of, wide_words_of}
+use Rattle.host.specs.Replies.{four_of, refusal_reply, said, fresh_reply, counts_reply, full_reply, ending_reply, stride_reply, wanted_reply, plain_reply, system_reply, wide_stride_reply, wide_ending_reply}
 
 -- a call that came back: its code, what it was lent as it stands afterwards, and the answer's words
 pub record Back (L : Type 0) : Type 0 where
@@ -46,12 +44,12 @@ words_right right words answer = eqb words right && four answer
 
 -- ---- Start: the record is written where it is fresh
 
-unfoldable pub start_handed : List ℕ → Says Progress → Back (List ℕ)
-start_handed w (refuses l) = replied (said fresh_reply (refuses l)) w
-start_handed w (gives p) = replied (said fresh_reply (gives p)) (words_of p)
+unfoldable pub start_handed : {P : Type 0} → (P → List ℕ) → List ℕ → Says P → Back (List ℕ)
+start_handed words w (refuses l) = replied (refusal_reply l) w
+start_handed words w (gives p) = replied fresh_reply (words p)
 
 unfoldable pub hz_start : Order → List ℕ → List ℕ → Back (List ℕ)
-hz_start o w answer = worded (words_right 8 (length w) (length answer)) w answer (start_handed w (start_call o).says)
+hz_start o w answer = worded (words_right 8 (length w) (length answer)) w answer (start_handed words_of w (start_call o).says)
 
 -- ---- Step: the record's words, beside the table and the solution
 
@@ -62,14 +60,18 @@ pub record Recorded : Type 0 where
 abbrev pub recorded : List ℕ → Held → Recorded
 recorded w h = record { words = w; held = h }
 
-unfoldable pub step_handed : List ℕ → Outcome Stride Lent → Back Recorded
-step_handed w o =
-    let r = said stride_reply o.says in
-    replied r (recorded (kept r.code w o.left.progress) o.left.held)
+-- the words of a record after a step: as found on a refusal
+abbrev pub kept : {A : Type 0} → Says A → List ℕ → List ℕ → List ℕ
+kept (refuses l) found next = found
+kept (gives a) found next = next
+
+unfoldable pub step_handed : {A L : Type 0} → (A → Reply) → (L → List ℕ) → (L → Held) → List ℕ → Outcome A L → Back Recorded
+step_handed f words lent_to w o = replied (said f o.says) (recorded (kept o.says w (words o.left)) (lent_to o.left))
 
 unfoldable pub hz_step : List ℕ → Held → List ℕ → List ℕ → List ℕ → Back Recorded
 hz_step w h mask nonzero answer =
-    worded (words_right 8 (length w) (length answer)) (recorded w h) answer (step_handed w (step_call (progress_of w) h mask nonzero))
+    worded (words_right 8 (length w) (length answer)) (recorded w h) answer
+    (step_handed stride_reply (λ l. words_of l.progress) (λ l. l.held) w (step_call (progress_of w) h mask nonzero))
 
 -- ---- Wanted: the record's words are read, and only read
 
@@ -99,30 +101,21 @@ hz_plain field size values x answer = worded (four (length answer)) x answer (ha
 
 unfoldable pub hz_write : ℕ → ℕ → ℕ → List ℕ → List ℕ → List ℕ → Back (List ℕ)
 hz_write f n m table target answer =
-    worded (four (length answer)) target answer (handed written_reply (write_call f n m table target))
+    worded (four (length answer)) target answer (handed full_reply (write_call f n m table target))
 
 unfoldable pub hz_read : List ℕ → List ℕ → Back Nothing
 hz_read input answer = worded (four (length answer)) tt answer (handed system_reply (read_call input))
 
 -- ---- the wide calls. Start and Step leave the record's words as found on a refusal
 
-unfoldable pub begin_handed : List ℕ → Outcome Wide.Begun WideProgress → Back (List ℕ)
-begin_handed w o =
-    let r = said begun_reply o.says in
-    replied r (wide_kept r.code w o.left)
-
 unfoldable pub hz_wide_start : WideOrder → List ℕ → List ℕ → Back (List ℕ)
-hz_wide_start o w answer = worded (words_right 106 (length w) (length answer)) w answer (begin_handed w (Wide.start_call o))
-
-unfoldable pub wide_step_handed : List ℕ → Outcome Wide.Stride Wide.Lent → Back Recorded
-wide_step_handed w o =
-    let r = said wide_stride_reply o.says in
-    replied r (recorded (wide_kept r.code w o.left.progress) o.left.held)
+hz_wide_start o w answer =
+    worded (words_right 106 (length w) (length answer)) w answer (start_handed wide_words_of w (Wide.start_call o).says)
 
 unfoldable pub hz_wide_step : List ℕ → Held → List ℕ → List ℕ → List ℕ → Back Recorded
 hz_wide_step w h mask nonzero answer =
     worded (words_right 106 (length w) (length answer)) (recorded w h) answer
-    (wide_step_handed w (Wide.step_call (wide_of w) h mask nonzero))
+    (step_handed wide_stride_reply (λ l. wide_words_of l.progress) (λ l. l.held) w (Wide.step_call (wide_of w) h mask nonzero))
 
 unfoldable pub hz_wide_wanted : List ℕ → List ℕ → Back Nothing
 hz_wide_wanted w answer =

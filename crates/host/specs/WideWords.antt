@@ -54,7 +54,3 @@ head_of o s mask nonzero found =
 unfoldable pub wide_words_of : WideProgress → List ℕ
 wide_words_of p =
     head_of p.order (wide_spot_of p.place) p.mask p.nonzero p.pivots.found ++ p.pivots.columns
-
--- the words of a record after a call: as found where the code is 0, a refusal
-unfoldable pub wide_kept : ℕ → List ℕ → WideProgress → List ℕ
-wide_kept code found p = pick (eqb code 0) found (wide_words_of p)

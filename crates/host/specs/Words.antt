@@ -67,7 +67,3 @@ unfoldable pub words_of : Progress → List ℕ
 words_of p =
     let s = spot_of p.place in
     p.field ∷ p.shares ∷ p.size ∷ s.step ∷ s.j ∷ s.k ∷ p.mask ∷ p.nonzero ∷ []
-
--- the words of a record after a step: as found where the code is 0, a refusal
-unfoldable pub kept : ℕ → List ℕ → Progress → List ℕ
-kept code found p = pick (eqb code 0) found (words_of p)

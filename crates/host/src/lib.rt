@@ -13,7 +13,7 @@ ghost use Rattle.solver.specs.Calls.{order};
 ghost use Rattle.host.specs.Faces.{back, recorded, hz_start, hz_step, hz_wanted, hz_solve, hz_deal, hz_gather, hz_counts, hz_plain, hz_write, hz_read, hz_wide_start, hz_wide_counts, hz_wide_wanted, hz_wide_step, hz_wide_solve};
 ghost use Rattle.wide.specs.WideCalls as Wide;
 
-use solver::Starting;
+use replies::Answer;
 
 // A fresh record of these sizes, or refusal 1, 2, 3.
 #[unsafe(no_mangle)]
@@ -30,11 +30,11 @@ pub extern "C" fn hz_start(
         return 99;
     }
     match solver::start(field, shares, size) {
-        Starting::Refused(r) => replies::say(answer, replies::refusal(r)),
-        Starting::Fresh(p) => {
+        Ok(p) => {
             words::write(record_words, p);
-            replies::say(answer, replies::short(7, 0, 0))
+            replies::say(answer, replies::fresh())
         }
+        Err(r) => replies::say(answer, r.reply()),
     }
 }
 
@@ -53,18 +53,14 @@ pub extern "C" fn hz_step(
     if record_words.len() != 8 || answer.len() != 4 {
         return 99;
     }
-    let s = solver::step(
-        words::read(&record_words[..]),
-        table,
-        solution,
-        mask,
-        nonzero,
-    );
-    let told = s.answer;
-    let next = s.next;
-    let r = replies::of_step(told);
-    words::keep(record_words, r.code, next);
-    replies::say(answer, r)
+    let p = words::read(&record_words[..]);
+    match solver::step(p, table, solution, mask, nonzero) {
+        Ok(s) => {
+            words::write(record_words, s.next);
+            replies::say(answer, s.told.reply())
+        }
+        Err(r) => replies::say(answer, r.reply()),
+    }
 }
 
 // The draws that the next step must be lent.
@@ -76,7 +72,7 @@ pub extern "C" fn hz_wanted(record_words: &[u64], answer: &mut [u64]) -> u64
         return 99;
     }
     let w = solver::wanted(words::read(record_words));
-    replies::say(answer, replies::of_wanted(w))
+    replies::say(answer, w.reply())
 }
 
 // The whole solve.
@@ -97,7 +93,7 @@ pub extern "C" fn hz_solve(
         return 99;
     }
     let s = solver::solve(field, shares, size, table, solution, mask, nonzero);
-    replies::say(answer, replies::of_solve(s))
+    replies::say(answer, s.reply())
 }
 
 // Values in row order into a table of shares.
@@ -117,7 +113,7 @@ pub extern "C" fn hz_deal(
         return 99;
     }
     let f = solver::deal(field, shares, size, values, table, mask);
-    replies::say(answer, replies::of_fill(f))
+    replies::say(answer, f.reply())
 }
 
 // The values of a table of shares, in row order.
@@ -136,7 +132,7 @@ pub extern "C" fn hz_gather(
         return 99;
     }
     let f = solver::gather(field, shares, size, table, values);
-    replies::say(answer, replies::of_fill(f))
+    replies::say(answer, f.reply())
 }
 
 // What a full solve takes.
@@ -148,7 +144,7 @@ pub extern "C" fn hz_counts(field: u64, shares: u64, size: u64, answer: &mut [u6
         return 99;
     }
     let c = solver::counts(field, shares, size);
-    replies::say(answer, replies::of_counts(c))
+    replies::say(answer, c.reply())
 }
 
 // The plain solve, for the laboratory. Not for secrets.
@@ -166,7 +162,7 @@ pub extern "C" fn hz_plain(
         return 99;
     }
     let s = plain::solve(field, size, values, solution);
-    replies::say(answer, replies::of_plain(s))
+    replies::say(answer, s.reply())
 }
 
 // The exchange record of a system.
@@ -185,7 +181,7 @@ pub extern "C" fn hz_write(
         return 99;
     }
     let w = exchange::write(field, shares, size, table, target);
-    replies::say(answer, replies::of_write(w))
+    replies::say(answer, w.reply())
 }
 
 // The numbers of an exchange record, and the length of its table, which begins at its byte 16.
@@ -197,7 +193,7 @@ pub extern "C" fn hz_read(input: &[u8], answer: &mut [u64]) -> u64
         return 99;
     }
     let r = exchange::read(input);
-    replies::say(answer, replies::of_read(r))
+    replies::say(answer, r.reply())
 }
 
 // A fresh wide record, or refusal 1, 2, 3, 21.
@@ -215,12 +211,13 @@ pub extern "C" fn hz_wide_start(
     if record_words.len() != 106 || answer.len() != 4 {
         return 99;
     }
-    let s = wide::start(field, shares, rows, columns);
-    let told = s.answer;
-    let fresh = s.record;
-    let r = replies::of_wide_start(told);
-    words::keep_wide(record_words, r.code, fresh);
-    replies::say(answer, r)
+    match wide::start(field, shares, rows, columns) {
+        Ok(p) => {
+            words::write_wide(record_words, p);
+            replies::say(answer, replies::fresh())
+        }
+        Err(r) => replies::say(answer, r.reply()),
+    }
 }
 
 // The lengths that a whole wide solve wants.
@@ -238,7 +235,7 @@ pub extern "C" fn hz_wide_counts(
         return 99;
     }
     let c = wide::counts(field, shares, rows, columns);
-    replies::say(answer, replies::of_wide_wanted(c))
+    replies::say(answer, c.reply())
 }
 
 // The draws that the next wide step must be lent.
@@ -250,7 +247,7 @@ pub extern "C" fn hz_wide_wanted(record_words: &[u64], answer: &mut [u64]) -> u6
         return 99;
     }
     let w = wide::wanted(words::read_wide(record_words));
-    replies::say(answer, replies::of_wide_wanted(w))
+    replies::say(answer, w.reply())
 }
 
 // The step that the wide record stands at, and the record at the next place.
@@ -268,18 +265,14 @@ pub extern "C" fn hz_wide_step(
     if record_words.len() != 106 || answer.len() != 4 {
         return 99;
     }
-    let s = wide::step(
-        words::read_wide(&record_words[..]),
-        table,
-        solution,
-        mask,
-        nonzero,
-    );
-    let told = s.answer;
-    let next = s.next;
-    let r = replies::of_wide_step(told);
-    words::keep_wide(record_words, r.code, next);
-    replies::say(answer, r)
+    let p = words::read_wide(&record_words[..]);
+    match wide::step(p, table, solution, mask, nonzero) {
+        Ok(s) => {
+            words::write_wide(record_words, s.next);
+            replies::say(answer, s.told.reply())
+        }
+        Err(r) => replies::say(answer, r.reply()),
+    }
 }
 
 // The whole wide solve.
@@ -301,5 +294,5 @@ pub extern "C" fn hz_wide_solve(
         return 99;
     }
     let s = wide::solve(field, shares, rows, columns, table, solution, mask, nonzero);
-    replies::say(answer, replies::of_wide_solve(s))
+    replies::say(answer, s.reply())
 }

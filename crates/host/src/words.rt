@@ -2,14 +2,14 @@
 // columns, step, j, k, mask draws taken, nonzero draws taken, how many pivots are found, and 96 slots for these.
 ghost use Rattle.std.specs.Prelude.{◌≡◌, length};
 ghost use Rattle.sharing.specs.Bounds.{most_rows};
-ghost use Rattle.host.specs.Words.{nowhere, without, place_of, step_spot, spot_of, progress_of, words_of, kept};
-ghost use Rattle.host.specs.WideWords.{widened, wide_place_of, wide_spot_of, byte_of, bytes_of, wide_of, head_of, wide_words_of, wide_kept};
+ghost use Rattle.host.specs.Words.{nowhere, without, place_of, step_spot, spot_of, progress_of, words_of};
+ghost use Rattle.host.specs.WideWords.{widened, wide_place_of, wide_spot_of, byte_of, bytes_of, wide_of, head_of, wide_words_of};
 
 use course::{Place, Progress, Step};
 use pattern::{Pivots, WideOrder, WidePlace, WideProgress};
 
 // A place as words: the step's number, j and k.
-#[derive(Clone, Copy)]
+#[derive(Clone, Copy, Debug, PartialEq, Eq)]
 pub struct Spot {
     pub step: u64,
     pub j: u64,
@@ -94,26 +94,10 @@ pub fn write(record_words: &mut [u64], p: Progress)
     requires { length record_words.old ≡ 8 }
     ensures { record_words.new ≡ words_of p }
 {
-    let place = p.place;
-    let s = spot_of(place);
-    record_words[0] = p.field;
-    record_words[1] = p.shares;
-    record_words[2] = p.size;
-    record_words[3] = s.step;
-    record_words[4] = s.j;
-    record_words[5] = s.k;
-    record_words[6] = p.mask;
-    record_words[7] = p.nonzero;
-}
-
-// The record after a step: its words as found where the code is 0, a refusal.
-pub fn keep(record_words: &mut [u64], code: u64, p: Progress)
-    requires { length record_words.old ≡ 8 }
-    ensures { record_words.new ≡ kept code record_words.old p }
-{
-    if code != 0 {
-        write(record_words, p);
-    }
+    let s = spot_of(p.place);
+    record_words.copy_from_slice(&[
+        p.field, p.shares, p.size, s.step, s.j, s.k, p.mask, p.nonzero,
+    ]);
 }
 
 // ---- the wide record
@@ -161,7 +145,7 @@ fn wide_spot_of(p: WidePlace) -> Spot
 fn byte_of(word: u64) -> u8
     ensures { result ≡ byte_of word }
 {
-    if word <= 255 { word as u8 } else { 255 }
+    u8::try_from(word).unwrap_or(255)
 }
 
 fn read_slots(slots: &[u64]) -> [u8; 96]
@@ -169,24 +153,19 @@ fn read_slots(slots: &[u64]) -> [u8; 96]
     ensures { result ≡ bytes_of slots.now }
 {
     let mut columns = [0u8; 96];
+    // stays: a loop over both lists at once has no name in its invariant for the one that is written, so that proof didn't close.
     for i in 0..96 {
         columns[i] = byte_of(slots[i]);
     }
     columns
 }
 
-fn word_of(column: u8) -> u64
-    ensures { result ≡ column }
-{
-    column as u64
-}
-
 fn write_slots(slots: &mut [u64], columns: &[u8])
     requires { length slots.old ≡ length columns.now }
     ensures { slots.new ≡ columns.now }
 {
-    for i in 0..slots.len() {
-        slots[i] = word_of(columns[i]);
+    for (i, slot) in slots.iter_mut().enumerate() {
+        *slot = u64::from(columns[i]);
     }
 }
 
@@ -204,13 +183,13 @@ pub fn read_wide(record_words: &[u64]) -> WideProgress
     let place = wide_place_of(record_words[4], record_words[5], record_words[6]);
     let columns = read_slots(&record_words[10..]);
     WideProgress {
-        order: order,
-        place: place,
+        order,
+        place,
         mask: record_words[7],
         nonzero: record_words[8],
         pivots: Pivots {
             found: record_words[9],
-            columns: columns,
+            columns,
         },
     }
 }
@@ -220,44 +199,18 @@ fn write_head(head: &mut [u64], o: WideOrder, s: Spot, mask: u64, nonzero: u64, 
     requires { length head.old ≡ 10 }
     ensures { head.new ≡ head_of o s mask nonzero found }
 {
-    head[0] = o.field;
-    head[1] = o.shares;
-    head[2] = o.rows;
-    head[3] = o.columns;
-    head[4] = s.step;
-    head[5] = s.j;
-    head[6] = s.k;
-    head[7] = mask;
-    head[8] = nonzero;
-    head[9] = found;
+    head.copy_from_slice(&[
+        o.field, o.shares, o.rows, o.columns, s.step, s.j, s.k, mask, nonzero, found,
+    ]);
 }
 
 // The 106 words of a wide record.
-fn write_wide(record_words: &mut [u64], p: WideProgress)
+pub fn write_wide(record_words: &mut [u64], p: WideProgress)
     requires { length record_words.old ≡ 106 }
     ensures { record_words.new ≡ wide_words_of p }
 {
-    let order = p.order;
-    let place = p.place;
-    let pivots = p.pivots;
-    let columns = pivots.columns;
-    write_head(
-        &mut record_words[..10],
-        order,
-        wide_spot_of(place),
-        p.mask,
-        p.nonzero,
-        pivots.found,
-    );
-    write_slots(&mut record_words[10..], &columns[..]);
-}
-
-// The wide record after a call: its words as found where the code is 0, a refusal.
-pub fn keep_wide(record_words: &mut [u64], code: u64, p: WideProgress)
-    requires { length record_words.old ≡ 106 }
-    ensures { record_words.new ≡ wide_kept code record_words.old p }
-{
-    if code != 0 {
-        write_wide(record_words, p);
-    }
+    let s = wide_spot_of(p.place);
+    let (head, slots) = record_words.split_at_mut(10);
+    write_head(head, p.order, s, p.mask, p.nonzero, p.pivots.found);
+    write_slots(slots, &p.pivots.columns);
 }

@@ -3,7 +3,10 @@
 // gives.
 #![tactic(auto)]
 
+use show::{Hex, Outcome};
 use std::io;
+use verdict::Refusal;
+use walk::Ending;
 
 // The system's tapes: 3 and on in steps of 5, and 7 and on in steps of 9, modulo 256.
 const DRAWS: [u8; 6] = *b"\x03\x08\x0d\x12\x17\x1c";
@@ -13,38 +16,35 @@ const MASK: [u8; 42] =
 
 // Sixteen inverses, from that of a on.
 fn line(out: &impl Print, f: u64, a: u8) -> io::Result<()> {
-    let mut x = a;
-    show::text(out, " ")?;
-    for _ in 0usize..16 {
-        show::bytes(out, "", &[field::inverse(f, x)])?;
-        x = std::num::wrapping_add_u8(x, 1);
+    print!(out; " ")?;
+    for i in 0u8..16 {
+        print!(out; "{}", Hex(&[field::inverse(f, a.wrapping_add(i))]))?;
     }
-    show::text(out, "\n")
+    print!(out; "\n")
 }
 
-fn inverses(out: &impl Print, f: u64, lines: usize) -> io::Result<()> {
-    let mut a = 0u8;
-    show::number(out, "inverses of F", f)?;
-    show::text(out, ", from that of 0 on\n")?;
-    for _ in 0..lines {
-        line(out, f, a)?;
-        a = std::num::wrapping_add_u8(a, 16);
+fn inverses(out: &impl Print, f: u64, lines: u8) -> io::Result<()> {
+    print!(out; "inverses of F{f}, from that of 0 on\n")?;
+    for i in 0..lines {
+        line(out, f, i.wrapping_mul(16))?;
     }
     Ok(())
+}
+
+fn solved(table: &mut [u8], x: &mut [u8]) -> Result<Ending, Refusal> {
+    solver::deal(256, 2, 2, b"\x57\x83\x01\x02\x03\x04", table, &DRAWS)?;
+    solver::solve(256, 2, 2, table, x, &MASK, &[3, 6])
 }
 
 fn system(out: &impl Print) -> io::Result<()> {
     let mut table = [0u8; 12];
     let mut x = [0xeeu8; 2];
-    solver::deal(256, 2, 2, b"\x57\x83\x01\x02\x03\x04", &mut table, &DRAWS);
-    let a = solver::solve(256, 2, 2, &mut table, &mut x, &MASK, &[3, 6]);
-    show::text(out, "R-4's system: ")?;
-    show::say(out, show::verdict(a))?;
-    show::text(out, ": ")?;
-    show::say(out, show::taken(a))?;
-    show::bytes(out, "\n  table", &table)?;
-    show::bytes(out, "\n  solution", &x)?;
-    show::text(out, "\n")
+    let a = solved(&mut table, &mut x);
+    print!(out; "R-4's system: ")?;
+    show::say(out, &a.map(Outcome::from))?;
+    print!(out; ": ")?;
+    show::say(out, &a.map(show::taken))?;
+    print!(out; "\n  table{}\n  solution{}\n", Hex(&table), Hex(&x))
 }
 
 fn main(rt: HostRuntime) -> io::Result<()> {

@@ -5,11 +5,12 @@
 #![tactic(auto)]
 
 use course::{Place, Progress, Step};
-use solver::{Starting, Stepped, Stepping};
+use solver::{Stepped, Stride};
 use std::io;
+use verdict::Refusal;
 
 // A host's own: the record, the table and the solution.
-#[derive(Clone, Copy)]
+#[derive(Clone, Copy, PartialEq, Eq)]
 struct Host {
     record: Progress,
     table: [u8; 12],
@@ -17,137 +18,90 @@ struct Host {
 }
 
 // One call's answer, and the host after it.
-#[derive(Clone, Copy)]
+#[derive(Clone, Copy, PartialEq, Eq)]
 struct Words {
-    answer: Stepping,
+    answer: Result<Stride, Refusal>,
     host: Host,
 }
 
 // A host of each form.
-#[derive(Clone, Copy)]
+#[derive(Clone, Copy, PartialEq, Eq)]
 struct Both {
     lent: Host,
     value: Host,
 }
 
-fn same_bytes(g: Host, h: Host) -> bool {
-    let t = g.table;
-    let u = h.table;
-    let x = g.solution;
-    let y = h.solution;
-    show::alike(&t, &u) && show::alike(&x, &y)
-}
-
-fn same(g: Words, h: Words) -> bool {
-    let a = g.answer;
-    let b = h.answer;
-    let i = g.host;
-    let k = h.host;
-    let p = i.record;
-    let q = k.record;
-    show::same(show::of_stepping(a), show::of_stepping(b))
-        && show::same_record(p, q)
-        && same_bytes(i, k)
-}
-
-// A byte of F16 as a hexadecimal digit.
-fn digit(x: u8) -> u8 {
-    let d = x % 16;
-    if d < 10 { 48 + d } else { 87 + d }
-}
-
-fn print_table(out: &impl Print, t: &[u8; 12]) -> io::Result<()> {
-    let text = [
-        b' ',
-        digit(t[0]),
-        digit(t[1]),
-        b' ',
-        digit(t[2]),
-        digit(t[3]),
-        b' ',
-        digit(t[4]),
-        digit(t[5]),
-        b' ',
-        digit(t[6]),
-        digit(t[7]),
-        b' ',
-        digit(t[8]),
-        digit(t[9]),
-        b' ',
-        digit(t[10]),
-        digit(t[11]),
-    ];
-    out.write_all(&text)
-}
-
-fn print_solution(out: &impl Print, x: &[u8; 2]) -> io::Result<()> {
-    let text = [b' ', digit(x[0]), b' ', digit(x[1])];
-    out.write_all(&text)
+// Entries of two shares, a hexadecimal digit each.
+fn print_entries(out: &impl Print, s: &[u8]) -> io::Result<()> {
+    for entry in s.chunks_exact(2) {
+        print!(out; " {:x}{:x}", entry[0] % 16, entry[1] % 16)?;
+    }
+    Ok(())
 }
 
 fn print_host(out: &impl Print, h: Host) -> io::Result<()> {
-    let p = h.record;
-    let t = h.table;
-    let x = h.solution;
-    show::text(out, " | ")?;
-    show::record(out, p)?;
-    show::text(out, " | table")?;
-    print_table(out, &t)?;
-    show::text(out, " | solution")?;
-    print_solution(out, &x)
+    print!(out; " | record {} | table", h.record)?;
+    print_entries(out, &h.table)?;
+    let [x, y] = h.solution;
+    print!(out; " | solution {:x} {:x}", x % 16, y % 16)
 }
 
 fn print_told(out: &impl Print, t: Words) -> io::Result<()> {
-    let a = t.answer;
-    let h = t.host;
-    show::say(out, show::of_stepping(a))?;
-    print_host(out, h)
+    show::say(out, &t.answer)?;
+    print_host(out, t.host)
 }
 
 fn by_lent(h: Host, mask: &[u8], nonzero: &[u8]) -> Words {
-    let p = h.record;
     let mut t = h.table;
     let mut x = h.solution;
-    let r = lent::stepped(p, &mut t, &mut x, mask, nonzero);
-    outcome(r, &t, &x)
+    let r = lent::stepped(h.record, &mut t, &mut x, mask, nonzero);
+    outcome(r, h.record, t, x)
 }
 
 fn by_value(h: Host, mask: &[u8], nonzero: &[u8]) -> Words {
-    let p = h.record;
     let mut t = h.table;
     let mut x = h.solution;
-    let r = solver::step(p, &mut t, &mut x, mask, nonzero);
-    outcome(r, &t, &x)
+    let r = solver::step(h.record, &mut t, &mut x, mask, nonzero);
+    outcome(r, h.record, t, x)
 }
 
-fn outcome(r: Stepped, t: &[u8; 12], x: &[u8; 2]) -> Words {
-    let a = r.answer;
-    let p = r.next;
-    let h = Host {
-        record: p,
-        table: *t,
-        solution: *x,
+// A refusal leaves the record as it was.
+fn outcome(
+    r: Result<Stepped, Refusal>,
+    was: Progress,
+    table: [u8; 12],
+    solution: [u8; 2],
+) -> Words {
+    let record = match r {
+        Ok(s) => s.next,
+        Err(_) => was,
     };
-    Words { answer: a, host: h }
+    Words {
+        answer: r.map(|s| s.told),
+        host: Host {
+            record,
+            table,
+            solution,
+        },
+    }
 }
 
 // One call in each form, and its line.
 fn lend(out: &impl Print, b: Both, mask: &[u8], nonzero: &[u8]) -> io::Result<Both> {
-    let l = b.lent;
-    let v = b.value;
-    let g = by_lent(l, mask, nonzero);
-    let h = by_value(v, mask, nonzero);
+    let g = by_lent(b.lent, mask, nonzero);
+    let h = by_value(b.value, mask, nonzero);
     print_told(out, g)?;
-    if same(g, h) {
-        show::text(out, " | same by value\n")?;
+    if g == h {
+        print!(out; " | same by value\n")?;
     } else {
-        show::text(out, " | by value: ")?;
+        print!(out; " | by value: ")?;
         print_told(out, h)?;
-        show::text(out, "\n")?;
+        print!(out; "\n")?;
     }
-    let i = g.host;
-    let k = h.host;
-    Ok(Both { lent: i, value: k })
+    Ok(Both {
+        lent: g.host,
+        value: h.host,
+    })
 }
 
 // One call that is lent a part of each tape: the mask draws from `a` to before `e`, and the nonzero draws from `b` to before `f`.
@@ -168,16 +122,15 @@ fn call(out: &impl Print, hosts: Both, a: usize, e: usize, b: usize, f: usize) -
 // The same for both forms: the record, the values dealt into shares, and a solution that no step has written yet.
 fn begin(p: Progress, values: &[u8]) -> Both {
     let draws = [9, 2, 7, 4, 12, 5];
-    let mut t = [0; 12];
-    solver::deal(16, 2, 2, values, &mut t, &draws);
-    let x = [15, 15];
+    let mut table = [0; 12];
+    // these sizes and lengths are taken
+    let _ = solver::deal(16, 2, 2, values, &mut table, &draws);
     let h = Host {
         record: p,
-        table: t,
-        solution: x,
+        table,
+        solution: [15, 15],
     };
-    let g = h;
-    Both { lent: g, value: h }
+    Both { lent: h, value: h }
 }
 
 // Rows (0,1) and (1,0), b = (5,7): x = (7,5).
@@ -226,25 +179,17 @@ fn stopped(out: &impl Print, p: Progress) -> io::Result<()> {
 
 // The host's table with 16 for its last share, which is printed as 0.
 fn spoilt(h: Host) -> Host {
-    let p = h.record;
-    let x = h.solution;
-    let mut t = h.table;
-    t[11] = 16;
-    Host {
-        record: p,
-        table: t,
-        solution: x,
-    }
+    let mut table = h.table;
+    table[11] = 16;
+    Host { table, ..h }
 }
 
 // The first system with a byte that is no element.
 fn large(out: &impl Print, p: Progress) -> io::Result<()> {
     let b = begin(p, b"\x00\x01\x05\x01\x00\x07");
-    let l = b.lent;
-    let v = b.value;
     let c = Both {
-        lent: spoilt(l),
-        value: spoilt(v),
+        lent: spoilt(b.lent),
+        value: spoilt(b.value),
     };
     call(out, c, 0, 7, 0, 0)?;
     Ok(())
@@ -300,7 +245,7 @@ fn uncounted(out: &impl Print) -> io::Result<()> {
     made_up(out, counted(Place::At(Step::Scale(1)), 7, 0), 8, 1)?;
     made_up(out, counted(Place::At(Step::Check(1)), 7, 1), 5, 0)?;
     made_up(out, counted(Place::At(Step::Check(1)), 0, 7), 5, 0)?;
-    let most: u64 = 18446744073709551615;
+    let most = u64::MAX;
     made_up(out, counted(Place::At(Step::Check(1)), most, most), 5, 0)?;
     made_up(out, counted(Place::Stopped(2), 23, 1), 0, 0)?;
     made_up(out, counted(Place::Stopped(2), 28, 1), 0, 0)?;
@@ -309,13 +254,13 @@ fn uncounted(out: &impl Print) -> io::Result<()> {
 }
 
 fn main(rt: HostRuntime) -> io::Result<()> {
-    let Starting::Fresh(p) = solver::start(16, 2, 2) else {
+    let Ok(p) = solver::start(16, 2, 2) else {
         return Ok(());
     };
     solved(&rt, p)?;
-    show::text(&rt, "\n")?;
+    print!(rt; "\n")?;
     stopped(&rt, p)?;
-    show::text(&rt, "\n")?;
+    print!(rt; "\n")?;
     large(&rt, p)?;
     strange(&rt)?;
     uncounted(&rt)

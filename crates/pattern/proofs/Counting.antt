@@ -1,14 +1,15 @@
 -- What one turn of the loops over columns does to the sums that they work out, and to the slot that they look at.
 -- Assumes nothing.
-use mathlib.Core.Bool.{Bool, true}
+use mathlib.Core.Bool.{Bool, true, false}
 use mathlib.Core.List.{List}
-use mathlib.Core.Path.{◌≡◌, sym}
+use mathlib.Core.Path.{◌≡◌, refl, sym}
 use Prim.Native.Nat.{ℕ, zero, suc, ◌≤◌, ◌+◌, ◌-◌, ◌*◌}
 use native.Mathlib.Omega.{arith}
 use native.Mathlib.Nat.{suc-mul, mul-le-mul, mul-le-mul_right}
 use lib.Dec.{eqb}
 use lib.ListN.{get_or}
 use borrow.Author.Tests.{le-leb}
+use Rattle.std.specs.Int.{from_bool}
 use Rattle.field.specs.Field.{pick}
 use Rattle.sharing.specs.Bounds.{most_rows, most_draws}
 use Rattle.table.specs.Costs.{mix_cost, clear_cost, open_cost}
@@ -26,26 +27,40 @@ unfolding has
 slot_has ps i j a e = rw (le-leb 1 j a, e)
 
 -- a column more
-pub columns_turn : (o : WideOrder) (ps : List ℕ) (c i x : ℕ) (t : Bool) → i ≡ before ps (c + 1) → t ≡ has ps (c + 1) → x ≡ column_cost o (i + 1) (c + 1) t
-    → columns_cost o ps c + x ≡ columns_cost o ps (c + 1)
+pub columns_turn : (o : WideOrder) (ps : List ℕ) (j i x : ℕ) (t : Bool) → 1 ≤ j → i ≡ before ps j → t ≡ has ps j → x ≡ column_cost o (i + 1) j t
+    → columns_cost o ps (j - 1) + x ≡ columns_cost o ps (j + 1 - 1)
 unfolding columns_cost row_of
-columns_turn o ps c i x t e h k =
-    let n : c + 1 ≡ suc c = omega arith in
-    rw (k, h, e, n)
+columns_turn o ps zero i x t l e h k = absurd (let n : ⊥ = omega arith in n)
+columns_turn o ps (suc c) i x t l e h k =
+    let a : suc c - 1 ≡ c = omega arith in
+    let b : suc c + 1 - 1 ≡ suc c = omega arith in
+    rw (a, b, k, h, e)
 
-pub slot_turn : (high : ℕ) (ps : List ℕ) → ascends 0 high ps ≡ true → (c i r : ℕ) (t : Bool) → i ≡ before ps (c + 1) → t ≡ has ps (c + 1) → r ≡ pick t 1 0
-    → i + r ≡ before ps (c + 1 + 1)
-slot_turn high ps a c i r t e h k =
-    let n : c + 1 + 1 ≡ suc (c + 1) = omega arith in
-    rw (n, k, h, e) (sym (before-next high 0 ps a (c + 1) (omega arith)))
+one : (t : Bool) → from_bool t ≡ pick t 1 0
+one true = refl
+one false = refl
 
-pub full_turn : (o : WideOrder) (c x : ℕ) → x ≡ column_cost o 1 (c + 1) true → full_cost o c + x ≡ full_cost o (c + 1)
+pub slot_turn : (high : ℕ) (ps : List ℕ) → ascends 0 high ps ≡ true → (j i r : ℕ) (t : Bool) → 1 ≤ j → i ≡ before ps j → t ≡ has ps j → r ≡ from_bool t
+    → i + r ≡ before ps (j + 1)
+slot_turn high ps a j i r t l e h k =
+    let n : j + 1 ≡ suc j = omega arith in
+    rw (n, k, one t, h, e) (sym (before-next high 0 ps a j l))
+
+pub full_turn : (o : WideOrder) (j x : ℕ) → 1 ≤ j → x ≡ column_cost o 1 j true → full_cost o (j - 1) + x ≡ full_cost o (j + 1 - 1)
 unfolding full_cost
-full_turn o c x k = let n : c + 1 ≡ suc c = omega arith in rw (k, n)
+full_turn o zero x l k = absurd (let n : ⊥ = omega arith in n)
+full_turn o (suc c) x l k =
+    let a : suc c - 1 ≡ c = omega arith in
+    let b : suc c + 1 - 1 ≡ suc c = omega arith in
+    rw (a, b, k)
 
 -- so many columns take no more
-pub most_turn : (c s x : ℕ) → s ≤ c * most_column → x ≤ most_column → s + x ≤ (c + 1) * most_column
-most_turn c s x a b = let n : c + 1 ≡ suc c = omega arith in rw n (omega (arith, suc-mul c most_column))
+pub most_turn : (j s x : ℕ) → 1 ≤ j → s ≤ (j - 1) * most_column → x ≤ most_column → s + x ≤ (j + 1 - 1) * most_column
+most_turn zero s x l a b = absurd (let n : ⊥ = omega arith in n)
+most_turn (suc c) s x l a b =
+    let e : suc c - 1 ≡ c = omega arith in
+    let f : suc c + 1 - 1 ≡ suc c = omega arith in
+    rw f (omega (arith, suc-mul c most_column, rw e at a))
 
 pub most_columns_lem : (n s : ℕ) → s ≤ n * most_column → n ≤ 144 → s ≤ 144 * most_column
 most_columns_lem n s a b = omega (arith, mul-le-mul_right most_column b)

@@ -1,6 +1,6 @@
-pub mod Loops
 pub mod Slots
 pub mod Ascending
+pub mod Loops
 pub mod Standing
 pub mod Before
 pub mod Placed
@@ -8,4 +8,5 @@ pub mod Taken
 pub mod Enough
 pub mod Counting
 pub mod Moving
+pub mod Tallied
 pub mod Examples

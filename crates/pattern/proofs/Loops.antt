@@ -1,48 +1,48 @@
--- What one turn of each loop over the slots does to the definition that it works out: the slots from i on are slot i and those from i + 1 on.
+-- What the code reads off the slots is what the definitions say: counts, tests and the last slot; and what one turn of the loop over ascending slots does.
 -- Assumes nothing.
-use mathlib.Core.Bool.{true, false, ◌&&◌}
+use mathlib.Core.Bool.{Bool, true, false, cond, ◌&&◌}
 use mathlib.Core.List.{List, [], ◌∷◌}
-use mathlib.Core.Path.{◌≡◌, ap, ◌∙◌}
-use Prim.Native.Nat.{ℕ, suc, ◌<◌, ◌≤◌, ◌+◌}
+use mathlib.Core.Path.{◌≡◌, refl, ap, ◌∙◌}
+use Prim.Native.Nat.{ℕ, suc, ◌<◌, ◌≤◌, ◌+◌, ◌-◌}
 use native.Mathlib.Omega.{arith}
 use lib.Dec.{ltb, leb, eqb}
 use lib.ListN.{length, get_or, drop, drop_of_length-le}
 use lib.Seq.{drop-cons}
+use Rattle.std.specs.List.{slice_get, count_by, list_all}
+use Rattle.std.specs.Option.{unwrap_or}
+use Rattle.std.proofs.lemmas.List.Recursion.{is_count_by}
 use Rattle.field.specs.Field.{pick}
-use Rattle.pattern.specs.Pivots.{before, ascends, zeros}
+use Rattle.pattern.specs.Pivots.{before, last, ascends, zeros}
+
+one : (b : Bool) (n : ℕ) → pick b 1 0 + n ≡ cond b (1 + n) n
+one true n = refl
+one false n = omega arith
+
+pub count_before : (ps : List ℕ) (j : ℕ) → before ps j ≡ count_by (λ p. ltb p j) ps
+unfolding before
+count_before ps j = is_count_by (λ l. before l j) (λ p. ltb p j) refl (λ x xs. one (ltb x j) (before xs j)) ps
+
+pub zeros_all : (s : List ℕ) → list_all (λ x. eqb x 0) s ≡ zeros s
+unfolding zeros
+zeros_all [] = refl
+zeros_all (x ∷ xs) = ap (λ (b : Bool). eqb x 0 && b) (zeros_all xs)
+
+-- the last of a list
+pub last_slot : (l : List ℕ) → unwrap_or (slice_get l (length l - 1)) 0 ≡ last l
+unfolding last
+last_slot [] = refl
+last_slot (p ∷ []) = refl
+last_slot (p ∷ q ∷ ps) = let e : suc (suc (length ps)) - 1 ≡ suc (suc (length ps) - 1) = omega arith in rw e (last_slot (q ∷ ps))
 
 module _ (s : List ℕ) (i : ℕ) where
   next : i < length s → drop i s ≡ get_or s i 0 ∷ drop (i + 1) s
   next l = let e : suc i ≡ i + 1 = omega arith in drop-cons s i 0 l ∙ ap (λ (k : ℕ). get_or s i 0 ∷ drop k s) e
 
-  none : length s ≤ i → drop i s ≡ []
-  none l = drop_of_length-le s l
-
-  pub before_turn : (j : ℕ) → i < length s → before (drop i s) j ≡ pick (ltb (get_or s i 0) j) 1 0 + before (drop (i + 1) s) j
-  unfolding before
-  before_turn j l = rw (next l)
-
-  pub before_done : (j : ℕ) → length s ≤ i → before (drop i s) j ≡ 0
-  unfolding before
-  before_done j l = rw (none l)
-
-  pub ascends_stop : (low high : ℕ) → i < length s → ltb low (get_or s i 0) && leb (get_or s i 0) high ≡ false → ascends low high (drop i s) ≡ false
+  pub ascends_turn : (low high : ℕ) → i < length s
+      → ascends low high (drop i s) ≡ (ltb low (get_or s i 0) && leb (get_or s i 0) high) && ascends (get_or s i 0) high (drop (i + 1) s)
   unfolding ascends
-  ascends_stop low high l e = rw (next l, e)
-
-  pub ascends_go : (low high : ℕ) → i < length s → ltb low (get_or s i 0) && leb (get_or s i 0) high ≡ true
-      → ascends low high (drop i s) ≡ ascends (get_or s i 0) high (drop (i + 1) s)
-  unfolding ascends
-  ascends_go low high l e = rw (next l, e)
+  ascends_turn low high l = rw (next l)
 
   pub ascends_done : (low high : ℕ) → length s ≤ i → ascends low high (drop i s) ≡ true
   unfolding ascends
-  ascends_done low high l = rw (none l)
-
-  pub zeros_turn : i < length s → zeros (drop i s) ≡ eqb (get_or s i 0) 0 && zeros (drop (i + 1) s)
-  unfolding zeros
-  zeros_turn l = rw (next l)
-
-  pub zeros_done : length s ≤ i → zeros (drop i s) ≡ true
-  unfolding zeros
-  zeros_done l = rw (none l)
+  ascends_done low high l = rw (drop_of_length-le s l)

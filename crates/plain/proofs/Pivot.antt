@@ -5,11 +5,13 @@ use mathlib.Core.List.{List}
 use mathlib.Core.Path.{◌≡◌, refl, ap}
 use mathlib.Core.Logic.{◌≢◌}
 use Prim.Native.Nat.{ℕ, zero, suc, ◌+◌, ◌<◌, ◌≤◌}
-use native.Mathlib.Decide.{ℕ_discrete}
+use native.Mathlib.Decide.{ℕ_discrete, dec_lt}
 use native.Mathlib.Omega.{arith}
-use borrow.Author.Tests.{eq-eqb, ne_eqb}
+use borrow.Author.Tests.{eq-eqb, ne_eqb, lt-ltb, le-ltb}
+use Rattle.std.specs.Prelude.{Some, None}
 use Rattle.field.specs.Field.{pick}
 use Rattle.plain.specs.Elimination.{at, seek}
+use Rattle.plain.specs.Code.Worked.{one_of}
 
 module _ (w j : ℕ) (t : List ℕ) where
   pub seek-end : (r : ℕ) → seek w j t zero r ≡ r
@@ -49,4 +51,30 @@ module _ (w j : ℕ) (t : List ℕ) where
     | no n ↦
         rw (seek-here {left = left} r refl n)
         (record { low = omega arith; high = omega arith; passed = λ i a b. absurd (omega arith); pivot = λ l. n })
+  ]
+
+-- the search's answer as the code has it: the row, where it is one of the m
+module _ (m : ℕ) where
+  pub found_is : {k r : ℕ} → k ≡ r → r ≤ m → Some r ≡ one_of m k
+  found_is {k} {r} e h = rw (e, le-ltb m r h)
+
+  pub none_is : {k : ℕ} → m < k → None ≡ one_of m k
+  none_is {k} h = rw (lt-ltb m k h)
+
+  pub found_row : {k r : ℕ} → Some r ≡ one_of m k → (r ≡ k) × (r ≤ m)
+  found_row {k} {r} e = elim (dec_lt m k) [
+    | yes h ↦ absurd (let w : Some r ≡ None = rw (lt-ltb m k h) at e in cc)
+    | no n ↦
+        let h : k ≤ m = omega (arith, n) in
+        let w : Some r ≡ Some k = rw (le-ltb m k h) at e in
+        let d : r ≡ k = cc in
+        (d, omega (arith, d, h))
+  ]
+
+  pub no_row : {k : ℕ} → None ≡ one_of m k → m < k
+  no_row {k} e = elim (dec_lt m k) [
+    | yes h ↦ h
+    | no n ↦
+        let h : k ≤ m = omega (arith, n) in
+        absurd (let w : None ≡ Some k = rw (le-ltb m k h) at e in cc)
   ]

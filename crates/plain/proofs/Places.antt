@@ -18,6 +18,9 @@ module _ {m r j : ℕ} (a : 1 ≤ r) (b : r ≤ m) (c : 1 ≤ j) (d : j ≤ m + 
   pub row_fits : cell 1 (m + 1) r j + (m + 2 - j) ≤ table_bytes 1 m (m + 1)
   row_fits = omega (arith, row_in 1 inside, mul-one (columns_from (m + 1) j))
 
+pub row_room : {m r j : ℕ} → Inside m m r j → cell 1 (m + 1) r j + (m + 2 - j) ≤ table_bytes 1 m (m + 1)
+row_room i = row_fits i.row_low i.row_high i.column_low (omega (arith, i.column_high))
+
 module _ (m r j : ℕ) {p : ℕ} (t : List ℕ) (e : p ≡ cell 1 (m + 1) r j) where
   width : m + 2 - j ≡ columns_from (m + 1) j * 1
   width = omega (arith, mul-one (columns_from (m + 1) j))

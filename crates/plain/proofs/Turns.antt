@@ -3,7 +3,6 @@
 use mathlib.Core.List.{List}
 use mathlib.Core.Path.{◌≡◌, refl}
 use Prim.Native.Nat.{ℕ, zero, suc, ◌+◌, ◌-◌, ◌<◌, ◌≤◌}
-use native.Mathlib.Omega.{arith}
 use lib.ListN.{set, replicate}
 use borrow.Author.Tests.{lt-ltb, le-ltb}
 use Rattle.table.specs.Steps.{lift}
@@ -11,11 +10,6 @@ use Rattle.algebra.specs.Linear.{solved, stopped}
 use Rattle.verdict.specs.Calls.{gives, after}
 use Rattle.plain.specs.Elimination.{at, seek, column, going, halted, eliminate, unknowns, conclude, solves}
 use Rattle.plain.specs.Calls.{plain_does}
-use Rattle.plain.specs.Code.Worked.{worked_as}
-
-pub halted_at : (j : ℕ) (t : List ℕ) → 1 ≤ j → worked_as j t ≡ halted j
-halted_at zero t h = absurd (omega arith)
-halted_at (suc j) t h = refl
 
 module _ (f m : ℕ) where
   pub eliminate-end : (j : ℕ) (t : List ℕ) → eliminate f m zero j t ≡ going t

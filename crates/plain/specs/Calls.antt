@@ -1,20 +1,24 @@
 -- The plain call: what it answers, and every lent byte afterwards, for every input; and what its answer means.
 -- Assumes nothing.
-use Rattle.std.specs.Prelude.{List, ℕ, ◌+◌, ◌*◌, length}
+use Rattle.std.specs.Prelude.{List, ℕ, ◌+◌, ◌*◌, length, Result, Ok, Err}
 use Rattle.field.specs.Field.{field_of}
 use Rattle.algebra.specs.Linear.{Answer, solved, stopped, Means}
+use Rattle.verdict.specs.declared.Refusal.{Refusal}
 use Rattle.verdict.specs.declared.Rows.TheVariants.{Values}
 use Rattle.verdict.specs.Told.{Told, ◌or◌}
 use Rattle.verdict.specs.Refusals.{paper, no1, no3, buffers}
 use Rattle.verdict.specs.Calls.{Says, refuses, gives, Outcome, after, call}
-use Rattle.plain.specs.declared.Solving.{Solving}
-use Rattle.plain.specs.declared.Solving.TheVariants as S
+use Rattle.plain.specs.declared.Ending.{Ending}
+use Rattle.plain.specs.declared.Ending.TheVariants as E
 use Rattle.plain.specs.Elimination.{at, solves}
 
-abbrev pub plain_says : Solving → Says Answer
-plain_says S.Solved = gives solved
-plain_says (S.Stopped j) = gives (stopped j)
-plain_says (S.Refused r) = refuses (paper r)
+abbrev pub answer : Ending → Answer
+answer E.Solved = solved
+answer (E.Stopped j) = stopped j
+
+abbrev pub plain_says : Result Ending Refusal → Says Answer
+plain_says (Ok e) = gives (answer e)
+plain_says (Err r) = refuses (paper r)
 
 -- "Refusals: 1, 3, 4, 5 and 6, in 01's order, with one byte an entry": the values are m(m+1) bytes, and the solution m. R-2: "Deal's values
 -- and R-1's table have no shares: share 0"

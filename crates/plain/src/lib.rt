@@ -6,192 +6,214 @@
 
 ghost use Rattle.std.specs.Prelude.{◌≡◌, ◌+◌, ◌-◌, ◌≤◌, length, take};
 ghost use Rattle.sharing.specs.Bounds.{most_rows};
-ghost use Rattle.table.specs.Layout.{table_bytes, row_from, put_row};
-ghost use Rattle.verdict.specs.Calls.{after};
+ghost use Rattle.table.specs.Layout.{Inside, cell, row_from, put_row};
+ghost use Rattle.verdict.specs.Calls.{gives, after};
 ghost use Rattle.verdict.specs.Code.Verdicts.{told};
 ghost use Rattle.plain.specs.Elimination.{seek, exchange, scale, clear, clear_below, column, eliminate, unknowns};
-ghost use Rattle.plain.specs.Calls.{plain_says, plain_order, plain_does, plain_call, Tells};
-ghost use Rattle.plain.specs.Code.Worked.{worked_as};
+ghost use Rattle.plain.specs.Calls.{answer, plain_says, plain_order, plain_does, plain_call, Tells};
+ghost use Rattle.plain.specs.Code.Worked.{Stands, shape_of, one_of, worked_as};
 
-use verdict::{Refusal, Rows, Verdict};
+use table::{Minus, Shape};
+use verdict::{Refusal, Rows};
 
 const MOST_ENTRIES: usize = (sharing::MOST_ROWS as usize) * sharing::MOST_WIDTH;
 
-#[derive(Clone, Copy)]
-pub enum Solving {
+// What the solve has come to: the solution, or a column that has no pivot.
+#[derive(Clone, Copy, Debug, PartialEq, Eq)]
+pub enum Ending {
     Solved,
     Stopped(u64),
-    Refused(Refusal),
 }
 
-// The first row from row j down that has a pivot for column j, or m + 1.
-fn seek(m: usize, t: &[u8], j: usize) -> usize
-    requires { (m ≤ most_rows) × (1 ≤ j) × (j ≤ m) × (length t.now ≡ table_bytes 1 m (m + 1)) }
-    ensures { result ≡ seek (m + 1) j t.now (m + 1 - j) j }
-{
-    let mut r = j;
-    while r <= m {
-        let p = table::cell(1, m, m + 1, r, j);
-        if t[p] != 0 {
-            return r;
+// A square system of values: its field, and its equations. Its table has that many rows, a column more, and one byte an entry.
+// stays: (d) the table is lent beside it; where a Square held it, each step would have to promise that the field and the size are as before
+#[derive(Clone, Copy, Debug, PartialEq, Eq)]
+struct Square {
+    field: u64,
+    size: usize,
+}
+
+impl Square {
+    fn shape(self) -> Shape
+        requires { self.size ≤ most_rows }
+        ensures { result ≡ shape_of self }
+    {
+        Shape {
+            field: self.field,
+            shares: 1,
+            rows: self.size,
+            columns: self.size + 1,
         }
-        r += 1;
     }
-    r
-}
 
-// A copy of row r from column j on, at the front of an array that has room for any row.
-fn row_from(m: usize, t: &[u8], r: usize, j: usize) -> [u8; sharing::MOST_WIDTH]
-    requires m_le_most_rows { (m ≤ most_rows) × (1 ≤ j) × (j ≤ m) × (1 ≤ r) × (r ≤ m) }
-    requires t_len { length t.now ≡ table_bytes 1 m (m + 1) }
-    ensures { take (m + 2 - j) result ≡ row_from 1 (m + 1) r j t.now }
-{
-    let len = m + 2 - j;
-    let p = table::cell(1, m, m + 1, r, j);
-    let mut row = [0u8; sharing::MOST_WIDTH];
-    sharing::copy_into(&mut row[..len], &t[p..p + len]);
-    row
-}
-
-fn put_row(m: usize, t: &mut [u8], r: usize, j: usize, row: &[u8])
-    requires m_le_most_rows { (m ≤ most_rows) × (1 ≤ j) × (j ≤ m) × (1 ≤ r) × (r ≤ m) }
-    requires t_len { (length t.old ≡ table_bytes 1 m (m + 1)) × (length row.now ≡ m + 2 - j) }
-    ensures { t.new ≡ put_row 1 (m + 1) r j row.now t.old }
-{
-    let p = table::cell(1, m, m + 1, r, j);
-    sharing::copy_into(&mut t[p..p + row.len()], row);
-}
-
-// Rows a and b change places, from column j on.
-fn exchange(m: usize, t: &mut [u8], a: usize, b: usize, j: usize)
-    requires m_le_most_rows { (m ≤ most_rows) × (1 ≤ j) × (j ≤ m) × (1 ≤ a) × (a ≤ m) × (1 ≤ b) × (b ≤ m) }
-    requires t_len { length t.old ≡ table_bytes 1 m (m + 1) }
-    ensures { t.new ≡ exchange (m + 1) a b j t.old }
-{
-    let columns = m + 2 - j;
-    let row_a = row_from(m, &t[..], a, j);
-    let row_b = row_from(m, &t[..], b, j);
-    put_row(m, t, a, j, &row_b[..columns]);
-    put_row(m, t, b, j, &row_a[..columns]);
-}
-
-// Row j times the inverse of its pivot.
-fn scale(f: u64, m: usize, t: &mut [u8], j: usize)
-    requires { (m ≤ most_rows) × (1 ≤ j) × (j ≤ m) × (length t.old ≡ table_bytes 1 m (m + 1)) }
-    ensures { t.new ≡ scale f (m + 1) j t.old }
-{
-    let len = m + 2 - j;
-    let p = table::cell(1, m, m + 1, j, j);
-    let z = field::inverse(f, t[p]);
-    sharing::scale_opened(f, &mut t[p..p + len], z);
-}
-
-// Row k loses T[k,j] times row j. Nothing is secret here, so the factor may choose a row of the table of products.
-fn clear(f: u64, m: usize, t: &mut [u8], j: usize, k: usize)
-    requires m_le_most_rows { (m ≤ most_rows) × (1 ≤ j) × (j ≤ m) × (1 ≤ k) × (k ≤ m) }
-    requires t_len { length t.old ≡ table_bytes 1 m (m + 1) }
-    ensures { t.new ≡ clear f (m + 1) j k t.old }
-{
-    let len = m + 2 - j;
-    let p = table::cell(1, m, m + 1, k, j);
-    let z = t[p];
-    let mut row = row_from(m, &t[..], j, j);
-    sharing::scale_opened(f, &mut row[..len], z);
-    table::join(f, true, &mut t[p..p + len], &row[..len]);
-}
-
-fn clear_below(f: u64, m: usize, t: &mut [u8], j: usize)
-    requires { (m ≤ most_rows) × (1 ≤ j) × (j ≤ m) × (length t.old ≡ table_bytes 1 m (m + 1)) }
-    ensures { t.new ≡ clear_below f m j t.old }
-{
-    for i in 0..m - j {
-        clear(f, m, t, j, j + 1 + i);
+    // The byte of row r, column c.
+    fn cell(self, r: usize, c: usize) -> usize
+        requires { (self.size ≤ most_rows) × Inside self.size (self.size + 1) r c }
+        ensures { result ≡ cell 1 (self.size + 1) r c }
+    {
+        table::cell(self.shape(), r, c)
     }
-}
 
-// Column j, whose pivot was found in row k.
-fn column(f: u64, m: usize, t: &mut [u8], j: usize, k: usize)
-    requires m_le_most_rows { (m ≤ most_rows) × (1 ≤ j) × (j ≤ m) × (1 ≤ k) × (k ≤ m) }
-    requires t_len { length t.old ≡ table_bytes 1 m (m + 1) }
-    ensures { t.new ≡ column f m j k t.old }
-{
-    exchange(m, t, j, k, j);
-    scale(f, m, t, j);
-    clear_below(f, m, t, j);
-}
-
-// Column after column: 0, or the first column that has no pivot.
-fn eliminate(f: u64, m: usize, t: &mut [u8]) -> usize
-    requires { (m ≤ most_rows) × (length t.old ≡ table_bytes 1 m (m + 1)) }
-    ensures { worked_as result t.new ≡ eliminate f m m 1 t.old }
-{
-    let mut j: usize = 1;
-    while j <= m {
-        let k = seek(m, &t[..], j);
-        if m < k {
-            return j;
+    // The first row from row j down that has a pivot for column j.
+    fn seek(self, t: &[u8], j: usize) -> Option<usize>
+        requires { Stands self t.now × Inside self.size self.size j j }
+        ensures { result ≡ one_of self.size (seek (self.size + 1) j t.now (self.size + 1 - j) j) }
+    {
+        for r in j..=self.size {
+            if t[self.cell(r, j)] != 0 {
+                return Some(r);
+            }
         }
-        column(f, m, t, j, k);
-        j += 1;
+        None
     }
-    0
-}
 
-// Back substitution, from the last unknown to the first.
-fn unknowns(f: u64, m: usize, t: &mut [u8], solution: &mut [u8])
-    requires { (m ≤ most_rows) × (length t.old ≡ table_bytes 1 m (m + 1)) × (length solution.old ≡ m) }
-    ensures { solution.new ≡ unknowns f m m t.old solution.old }
-{
-    let mut j = m;
-    while 0 < j {
-        let p = table::cell(1, m, m + 1, j, m + 1);
-        let x = t[p];
-        solution[j - 1] = x;
-        table::lift(f, 1, m, m + 1, t, j, j, x);
-        j -= 1;
+    // A copy of row r from column j on, at the front of an array that has room for any row.
+    // stays: (a) fixed memory: of an array, with no heap, the caller takes the row's part
+    fn row_from(self, t: &[u8], r: usize, j: usize) -> [u8; sharing::MOST_WIDTH]
+        requires { Stands self t.now × Inside self.size self.size r j }
+        ensures { take (self.size + 2 - j) result ≡ row_from 1 (self.size + 1) r j t.now }
+    {
+        let len = self.size + 2 - j;
+        let p = self.cell(r, j);
+        let mut row = [0u8; sharing::MOST_WIDTH];
+        row[..len].copy_from_slice(&t[p..p + len]);
+        row
     }
-}
 
-// The solve on the copy of the values.
-fn work(f: u64, m: usize, t: &mut [u8], solution: &mut [u8]) -> Solving
-    requires { (m ≤ most_rows) × (length t.old ≡ table_bytes 1 m (m + 1)) × (length solution.old ≡ m) }
-    ensures { after (plain_says result) solution.new ≡ plain_does f m t.old solution.old }
-{
-    let j = eliminate(f, m, t);
-    if j == 0 {
-        unknowns(f, m, t, solution);
-        Solving::Solved
-    } else {
-        sharing::wipe(solution);
-        Solving::Stopped(j as u64)
+    fn put_row(self, t: &mut [u8], r: usize, j: usize, row: &[u8])
+        requires { Stands self t.old × Inside self.size self.size r j × (length row.now ≡ self.size + 2 - j) }
+        ensures { t.new ≡ put_row 1 (self.size + 1) r j row.now t.old }
+    {
+        let p = self.cell(r, j);
+        t[p..p + row.len()].copy_from_slice(row);
+    }
+
+    // Rows a and b change places, from column j on.
+    // stays: (d) two copies: split_at_mut and swap_with_slice would want a and b in order, and apart from a = b
+    fn exchange(self, t: &mut [u8], a: usize, b: usize, j: usize)
+        requires { Stands self t.old × Inside self.size self.size a j × Inside self.size self.size b j }
+        ensures { t.new ≡ exchange (self.size + 1) a b j t.old }
+    {
+        let columns = self.size + 2 - j;
+        let row_a = self.row_from(&t[..], a, j);
+        let row_b = self.row_from(&t[..], b, j);
+        self.put_row(t, a, j, &row_b[..columns]);
+        self.put_row(t, b, j, &row_a[..columns]);
+    }
+
+    // Row j times the inverse of its pivot.
+    fn scale(self, t: &mut [u8], j: usize)
+        requires { Stands self t.old × Inside self.size self.size j j }
+        ensures { t.new ≡ scale self.field (self.size + 1) j t.old }
+    {
+        let f = self.field;
+        let len = self.size + 2 - j;
+        let p = self.cell(j, j);
+        let z = field::inverse(f, t[p]);
+        sharing::scale_opened(f, &mut t[p..p + len], z);
+    }
+
+    // Row k loses T[k,j] times row j. Nothing is secret here, so the factor may choose a row of the table of products.
+    fn clear(self, t: &mut [u8], j: usize, k: usize)
+        requires { Stands self t.old × Inside self.size self.size j j × Inside self.size self.size k j }
+        ensures { t.new ≡ clear self.field (self.size + 1) j k t.old }
+    {
+        let f = self.field;
+        let len = self.size + 2 - j;
+        let p = self.cell(k, j);
+        let z = t[p];
+        let mut row = self.row_from(&t[..], j, j);
+        sharing::scale_opened(f, &mut row[..len], z);
+        table::join::<Minus>(f, &mut t[p..p + len], &row[..len]);
+    }
+
+    fn clear_below(self, t: &mut [u8], j: usize)
+        requires { Stands self t.old × Inside self.size self.size j j }
+        ensures { t.new ≡ clear_below self.field self.size j t.old }
+    {
+        for k in j + 1..=self.size {
+            self.clear(t, j, k);
+        }
+    }
+
+    // Column j, whose pivot was found in row k.
+    #[tactic(auto, unfolding(crate::specs::Elimination::column))]
+    fn column(self, t: &mut [u8], j: usize, k: usize)
+        requires { Stands self t.old × Inside self.size self.size j j × Inside self.size self.size k j }
+        ensures { t.new ≡ column self.field self.size j k t.old }
+    {
+        self.exchange(t, j, k, j);
+        self.scale(t, j);
+        self.clear_below(t, j);
+    }
+
+    // Column after column: the first that has no pivot, or none.
+    fn eliminate(self, t: &mut [u8]) -> Option<usize>
+        requires { Stands self t.old }
+        ensures { worked_as result t.new ≡ eliminate self.field self.size self.size 1 t.old }
+    {
+        for j in 1..=self.size {
+            let Some(k) = self.seek(&t[..], j) else {
+                return Some(j);
+            };
+            self.column(t, j, k);
+        }
+        None
+    }
+
+    // Back substitution, from the last unknown to the first.
+    fn unknowns(self, t: &mut [u8], solution: &mut [u8])
+        requires { Stands self t.old × (length solution.old ≡ self.size) }
+        ensures { solution.new ≡ unknowns self.field self.size self.size t.old solution.old }
+    {
+        for j in (1..=self.size).rev() {
+            let x = t[self.cell(j, self.size + 1)];
+            solution[j - 1] = x;
+            table::lift(self.shape(), t, j, j, x);
+        }
+    }
+
+    // The solve on the copy of the values.
+    fn work(self, t: &mut [u8], solution: &mut [u8]) -> Ending
+        requires { Stands self t.old × (length solution.old ≡ self.size) }
+        ensures { after (gives (answer result)) solution.new ≡ plain_does self.field self.size t.old solution.old }
+    {
+        match self.eliminate(t) {
+            None => {
+                self.unknowns(t, solution);
+                Ending::Solved
+            }
+            Some(j) => {
+                solution.fill(0);
+                Ending::Stopped(j as u64)
+            }
+        }
     }
 }
 
 // 1, 3, 4, 5, 6
-fn check(field: u64, size: u64, values: &[u8], length: usize) -> Verdict
+fn check(field: u64, size: u64, values: &[u8], length: usize) -> Result<(), Refusal>
     ensures { told result ≡ plain_order field size values.now length }
 {
-    let v = verdict::or_else(verdict::no1(field), verdict::no3(size));
-    let Verdict::Pass = v else {
-        return v;
-    };
+    verdict::no1(field)?;
+    verdict::no3(size)?;
     let m = size as usize;
     let rows = Rows::Values { width: m + 1 };
     verdict::buffers(field, rows, m * (m + 1), values, m, length)
 }
 
 // The plain solve. The first promise fixes the answer and every lent byte; the second says what the answer means.
-pub fn solve(field: u64, size: u64, values: &[u8], solution: &mut [u8]) -> Solving
+pub fn solve(field: u64, size: u64, values: &[u8], solution: &mut [u8]) -> Result<Ending, Refusal>
     ensures outcome { after (plain_says result) solution.new ≡ plain_call field size values.now solution.old }
     ensures meaning { Tells field size values.now (plain_says result) solution.new }
 {
-    match check(field, size, values, solution.len()) {
-        Verdict::Refuse(r) => Solving::Refused(r),
-        Verdict::Pass => {
-            let len = values.len();
-            let mut t = [0u8; MOST_ENTRIES];
-            sharing::copy_into(&mut t[..len], values);
-            work(field, size as usize, &mut t[..len], solution)
-        }
-    }
+    check(field, size, values, solution.len())?;
+    let mut copy = [0u8; MOST_ENTRIES];
+    let t = &mut copy[..values.len()];
+    t.copy_from_slice(values);
+    let square = Square {
+        field,
+        size: size as usize,
+    };
+    Ok(square.work(t, solution))
 }

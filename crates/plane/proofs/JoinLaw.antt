@@ -157,15 +157,14 @@ module _ {f : ℕ} (B : Binary f) (bits n columns : ℕ) (ds factor masks other_
           ];
         }
 
--- by what the callees of a join have left, for a q that is the field's
-pub join_law : {f : ℕ} → Binary f → (q bits n columns : ℕ) (ds factor masks other_row other z row new : List ℕ) → q ≡ (field_of f).q
+-- by what the callees of a join have left
+pub join_law : {f : ℕ} → Binary f → (bits n columns : ℕ) (ds factor masks other_row other z row new : List ℕ)
     → JoinedWords bits n (words_of columns) masks other z row new
-    → Dealt q (pairs n) columns ds z → Prepared bits n columns other_row other → Masked bits n factor masks
+    → Dealt (field_of f).q (pairs n) columns ds z → Prepared bits n columns other_row other → Masked bits n factor masks
     → length factor ≡ n
-    → ((e s : ℕ) → e < columns → s < n → byte_of n row e s < q)
-    → ((e s : ℕ) → e < columns → s < n → byte_of n other_row e s < q)
+    → ((e s : ℕ) → e < columns → s < n → byte_of n row e s < (field_of f).q)
+    → ((e s : ℕ) → e < columns → s < n → byte_of n other_row e s < (field_of f).q)
     → ((i : ℕ) → i < n → Taken f bits (get_or factor i 0))
     → Joined (field_of f) n columns ds factor other_row row new
-join_law B q bits n columns ds factor masks other_row other z row new hq J D O M lf er eo way =
-    join_lanes B bits n columns ds factor masks other_row other z row new J (rw hq at D) O M lf
-    (λ e s h hs. rw hq at (er e s h hs)) (λ e s h hs. rw hq at (eo e s h hs)) way
+join_law B bits n columns ds factor masks other_row other z row new J D O M lf er eo way =
+    join_lanes B bits n columns ds factor masks other_row other z row new J D O M lf er eo way

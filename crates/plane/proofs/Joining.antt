@@ -4,7 +4,6 @@ use mathlib.Core.Path.{◌≡◌, refl, ap, ◌∙◌}
 use Prim.Native.Nat.{ℕ, ◌+◌, ◌*◌, ◌≤◌}
 use mathlib.Core.List.{List}
 use native.Mathlib.Omega.{arith}
-use mathlib.Core.Logic.{⊎_elim}
 use native.Mathlib.Nat.{add-mul, mul_assoc}
 use lib.Bits.{bit_xor}
 use lib.ListN.{length, get_or}
@@ -13,7 +12,7 @@ use Rattle.sharing.specs.Run.{pairs}
 use Rattle.row.proofs.Places.{place_in}
 use Rattle.plane.specs.Code.Products.{dot, all_products}
 use Rattle.plane.specs.Code.Sums.{all_sums}
-use Rattle.plane.specs.Code.Words.{Widths, JoinedWords}
+use Rattle.plane.specs.Code.Words.{JoinedWords}
 use Rattle.plane.proofs.Sharewise.{share_of}
 use Rattle.plane.proofs.Producing.{products_at}
 use Rattle.plane.proofs.Summing.{sums_at, sums-beyond}
@@ -35,7 +34,3 @@ joined_words bits n words masks other z row p q new hp hr e d =
           ∙ products_at bits n (words * n) masks other (u * n + j) i (place_in words n u j hu hj) hi p hp));
       beyond = λ o h. ap (λ (r : List ℕ). get_or r o 0) d ∙ sums-beyond n words q z row o h;
     }
-
--- what is left where it is not one bit and not four
-pub eight : {bits : ℕ} → Widths bits → (bits ≡ 1 → ⊥) → (bits ≡ 4 → ⊥) → bits ≡ 8
-eight w a b = ⊎_elim (λ e. absurd (a e)) (λ v. ⊎_elim (λ e. absurd (b e)) (λ e. e) v) w

@@ -5,35 +5,34 @@
 #![tactic(auto)]
 
 use course::Order;
+use show::Buffer;
 use show::call::order;
-use solver::{Filling, Starting};
 use std::io;
+use verdict::Refusal;
 
 fn start(out: &impl Print, words: &str, o: Order) -> io::Result<()> {
     show::call::begin(out, "start", words)?;
     show::call::of_order(out, o)?;
     match solver::start(o.field, o.shares, o.size) {
-        Starting::Fresh(p) => {
-            show::text(out, "fresh ")?;
-            show::record(out, p)?;
-        }
-        Starting::Refused(r) => show::say(out, show::of_refusal(r))?,
+        Ok(p) => print!(out; "fresh record {p}\n"),
+        Err(r) => print!(out; "{r}\n"),
     }
-    show::text(out, "\n")
 }
 
 fn counts(out: &impl Print, words: &str, o: Order) -> io::Result<()> {
     show::call::begin(out, "counts", words)?;
     show::call::of_order(out, o)?;
-    let a = solver::counts(o.field, o.shares, o.size);
-    show::say(out, show::of_counting(a))?;
-    show::text(out, "\n")
+    show::say(out, &solver::counts(o.field, o.shares, o.size))?;
+    print!(out; "\n")
 }
 
 fn show_deal(out: &impl Print, values: &[u8], table: &[u8], mask: &[u8]) -> io::Result<()> {
-    show::buffer(out, "values ", values)?;
-    show::buffer(out, "table ", table)?;
-    show::buffer(out, "mask ", mask)
+    print!(out;
+        "values {}table {}mask {}",
+        Buffer(values),
+        Buffer(table),
+        Buffer(mask)
+    )
 }
 
 fn begin_deal(
@@ -50,7 +49,13 @@ fn begin_deal(
 }
 
 // Lends a copy of the table.
-fn deal_in(o: Order, values: &[u8], table: &[u8], mask: &[u8], t: &mut [u8]) -> Filling {
+fn deal_in(
+    o: Order,
+    values: &[u8],
+    table: &[u8],
+    mask: &[u8],
+    t: &mut [u8],
+) -> Result<(), Refusal> {
     show::call::copy(table, t);
     solver::deal(o.field, o.shares, o.size, values, t, mask)
 }
@@ -70,7 +75,7 @@ fn end_deal(
     }
     show::call::after(out)?;
     show_deal(out, values, &u[0..k], mask)?;
-    show::call::end(out, show::alike(table, &u[0..k]))
+    show::call::end(out, table == &u[0..k])
 }
 
 fn deal(
@@ -88,13 +93,12 @@ fn deal(
     }
     begin_deal(out, words, o, values, table, mask)?;
     let a = deal_in(o, values, table, mask, &mut t[0..k]);
-    show::say(out, show::of_filling(a))?;
+    show::say(out, &a.map(|_| "filled"))?;
     end_deal(out, values, table, mask, &t)
 }
 
 fn show_gather(out: &impl Print, table: &[u8], values: &[u8]) -> io::Result<()> {
-    show::buffer(out, "table ", table)?;
-    show::buffer(out, "values ", values)
+    print!(out; "table {}values {}", Buffer(table), Buffer(values))
 }
 
 fn begin_gather(
@@ -109,7 +113,7 @@ fn begin_gather(
     show::call::of_order(out, o)
 }
 
-fn gather_in(o: Order, table: &[u8], values: &[u8], v: &mut [u8]) -> Filling {
+fn gather_in(o: Order, table: &[u8], values: &[u8], v: &mut [u8]) -> Result<(), Refusal> {
     show::call::copy(values, v);
     solver::gather(o.field, o.shares, o.size, table, v)
 }
@@ -122,7 +126,7 @@ fn end_gather(out: &impl Print, table: &[u8], values: &[u8], v: &[u8; 8]) -> io:
     }
     show::call::after(out)?;
     show_gather(out, table, &u[0..k])?;
-    show::call::end(out, show::alike(values, &u[0..k]))
+    show::call::end(out, values == &u[0..k])
 }
 
 fn gather(out: &impl Print, words: &str, o: Order, table: &[u8], values: &[u8]) -> io::Result<()> {
@@ -133,7 +137,7 @@ fn gather(out: &impl Print, words: &str, o: Order, table: &[u8], values: &[u8]) 
     }
     begin_gather(out, words, o, table, values)?;
     let a = gather_in(o, table, values, &mut v[0..k]);
-    show::say(out, show::of_filling(a))?;
+    show::say(out, &a.map(|_| "filled"))?;
     end_gather(out, table, values, &v)
 }
 

@@ -5,9 +5,11 @@
 // The lists of calls are short: what a check of a function costs grows faster than its length.
 #![tactic(auto)]
 
-use exchange::{Reading, Writing};
-use show::call::LARGEST;
+use exchange::System;
+use show::call::{LARGEST, order};
+use show::{Buffer, Hex};
 use std::io;
+use verdict::Refusal;
 
 // R-3's record: F16, two shares, size 1, and the table 1, 2, 3, 4.
 const R: [u8; 23] =
@@ -15,28 +17,20 @@ const R: [u8; 23] =
 
 const TABLE: [u8; 4] = [1, 2, 3, 4];
 
-fn say_writing(out: &impl Print, a: Writing) -> io::Result<()> {
+fn say_reading(out: &impl Print, a: Result<System, Refusal>) -> io::Result<()> {
     match a {
-        Writing::Written => show::text(out, "written"),
-        Writing::Refused(r) => show::say(out, show::of_refusal(r)),
-    }
-}
-
-fn say_reading(out: &impl Print, a: Reading) -> io::Result<()> {
-    match a {
-        Reading::Found(s) => {
-            show::order(out, s.field, s.shares, s.size)?;
-            show::number(out, ", length ", s.length as u64)
+        Ok(s) => {
+            let o = order(s.field, s.shares, s.size);
+            print!(out; "{o}, length {}", s.length)
         }
-        Reading::Refused(r) => show::say(out, show::of_refusal(r)),
+        Err(r) => print!(out; "{r}"),
     }
 }
 
 // ---- write
 
 fn show_write(out: &impl Print, table: &[u8], target: &[u8]) -> io::Result<()> {
-    show::buffer(out, "table ", table)?;
-    show::buffer(out, "target ", target)
+    print!(out; "table {}target {}", Buffer(table), Buffer(target))
 }
 
 fn begin_write(
@@ -50,8 +44,7 @@ fn begin_write(
 ) -> io::Result<()> {
     show::call::begin(out, "write", words)?;
     show_write(out, table, target)?;
-    show::order(out, field, shares, size)?;
-    show::call::middle(out)
+    show::call::of_order(out, order(field, shares, size))
 }
 
 // The target is the front of x. The table is the one that was lent: the call only reads it.
@@ -63,7 +56,7 @@ fn end_write(out: &impl Print, table: &[u8], before: &[u8], x: &[u8; 32]) -> io:
     }
     show::call::after(out)?;
     show_write(out, table, &y[0..k])?;
-    show::call::end(out, show::alike(before, &y[0..k]))
+    show::call::end(out, before == &y[0..k])
 }
 
 // Lends a target of so many bytes.
@@ -83,7 +76,7 @@ fn write(
     }
     begin_write(out, words, field, shares, size, table, &blank[0..target])?;
     let a = exchange::write(field, shares, size, table, &mut x[0..target]);
-    say_writing(out, a)?;
+    show::say(out, &a.map(|_| "written"))?;
     end_write(out, table, &blank[0..target], &x)
 }
 
@@ -187,13 +180,12 @@ fn writes_accepted(out: &impl Print) -> io::Result<()> {
 
 fn read(out: &impl Print, words: &str, input: &[u8]) -> io::Result<()> {
     show::call::begin(out, "read", words)?;
-    show::number(out, "input ", input.len() as u64)?;
-    show::bytes(out, ":", input)?;
+    print!(out; "input {}:{}", input.len(), Hex(input))?;
     show::call::middle(out)?;
     say_reading(out, exchange::read(input))?;
     show::call::after(out)?;
-    show::buffer(out, "table ", exchange::table_in(input))?;
-    show::text(out, "the input is only read\n")
+    print!(out; "table {}", Buffer(exchange::table_in(input)))?;
+    print!(out; "the input is only read\n")
 }
 
 fn read_first(out: &impl Print, words: &str, input: &[u8], length: usize) -> io::Result<()> {
@@ -326,11 +318,10 @@ fn orders_of_read(out: &impl Print) -> io::Result<()> {
 // What is written of two equations in F16 in two shares.
 fn read_written(out: &impl Print, words: &str, table: &[u8]) -> io::Result<()> {
     let mut x = [0u8; 31];
-    let a = exchange::write(16, 2, 2, table, &mut x[..]);
-    if let Writing::Written = a {
-        read(out, words, &x[..])?;
+    match exchange::write(16, 2, 2, table, &mut x) {
+        Ok(()) => read(out, words, &x),
+        Err(_) => Ok(()),
     }
-    Ok(())
 }
 
 fn reads_accepted(out: &impl Print) -> io::Result<()> {

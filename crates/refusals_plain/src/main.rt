@@ -4,9 +4,11 @@
 // The lists of calls are short: what a check of a function costs grows faster than its length.
 #![tactic(auto)]
 
-use plain::Solving;
+use plain::Ending;
+use show::Buffer;
 use show::call::{BLANK, LARGEST};
 use std::io;
+use verdict::Refusal;
 
 // [2]x = [3].
 const ONE: [u8; 2] = [2, 3];
@@ -14,18 +16,16 @@ const ONE: [u8; 2] = [2, 3];
 // Rows (0,1),(1,0), b = (5,7).
 const TWO: [u8; 6] = [0, 1, 5, 1, 0, 7];
 
-// Here and not in show, which does not stand on plain.
-fn say_solving(out: &impl Print, a: Solving) -> io::Result<()> {
+fn say_solving(out: &impl Print, a: Result<Ending, Refusal>) -> io::Result<()> {
     match a {
-        Solving::Solved => show::text(out, "solved"),
-        Solving::Stopped(j) => show::number(out, "stopped ", j),
-        Solving::Refused(r) => show::say(out, show::of_refusal(r)),
+        Ok(Ending::Solved) => print!(out; "solved"),
+        Ok(Ending::Stopped(j)) => print!(out; "stopped {j}"),
+        Err(r) => print!(out; "{r}"),
     }
 }
 
 fn show_solve(out: &impl Print, values: &[u8], solution: &[u8]) -> io::Result<()> {
-    show::buffer(out, "values ", values)?;
-    show::buffer(out, "solution ", solution)
+    print!(out; "values {}solution {}", Buffer(values), Buffer(solution))
 }
 
 fn begin_solve(
@@ -38,13 +38,18 @@ fn begin_solve(
 ) -> io::Result<()> {
     show::call::begin(out, "plain solve", words)?;
     show_solve(out, values, solution)?;
-    show::number(out, "field ", field)?;
-    show::number(out, ", size ", size)?;
+    print!(out; "field {field}, size {size}")?;
     show::call::middle(out)
 }
 
 // Lends a copy of the solution.
-fn solve_in(field: u64, size: u64, values: &[u8], solution: &[u8], x: &mut [u8]) -> Solving {
+fn solve_in(
+    field: u64,
+    size: u64,
+    values: &[u8],
+    solution: &[u8],
+    x: &mut [u8],
+) -> Result<Ending, Refusal> {
     show::call::copy(solution, x);
     plain::solve(field, size, values, x)
 }
@@ -58,7 +63,7 @@ fn end_solve(out: &impl Print, values: &[u8], solution: &[u8], x: &[u8; 4]) -> i
     }
     show::call::after(out)?;
     show_solve(out, values, &y[0..k])?;
-    show::call::end(out, show::alike(solution, &y[0..k]))
+    show::call::end(out, solution == &y[0..k])
 }
 
 fn solve(

@@ -5,24 +5,20 @@
 #![tactic(auto)]
 
 use course::Order;
+use show::Outcome;
 use show::call::{BLANK, LARGEST, MASK, TABLE, ZERO_PIVOT, order};
-use solver::Solving;
 use std::io;
+use verdict::Refusal;
+use walk::Ending;
 
 // Rows (0,1),(0,3), b = (1,2), in two shares.
 const TWO_STOPS: [u8; 12] = [7, 7, 11, 10, 1, 0, 12, 12, 6, 5, 8, 10];
 
-fn say_counts(out: &impl Print, a: Solving) -> io::Result<()> {
-    show::text(out, ", counts ")?;
-    show::say(out, show::taken(a))
-}
-
-fn say_solving(out: &impl Print, a: Solving) -> io::Result<()> {
-    show::say(out, show::verdict(a))?;
+fn say_solving(out: &impl Print, a: Result<Ending, Refusal>) -> io::Result<()> {
+    show::say(out, &a.map(Outcome::from))?;
     match a {
-        Solving::Solved(_) => say_counts(out, a),
-        Solving::Stopped(_, _) => say_counts(out, a),
-        Solving::Refused(_) => Ok(()),
+        Ok(e) => print!(out; ", counts {}", show::taken(e)),
+        Err(_) => Ok(()),
     }
 }
 
@@ -49,7 +45,7 @@ fn solve_in(
     nonzero: &[u8],
     t: &mut [u8],
     x: &mut [u8],
-) -> Solving {
+) -> Result<Ending, Refusal> {
     show::call::copy(table, t);
     show::call::copy(solution, x);
     solver::solve(o.field, o.shares, o.size, t, x, mask, nonzero)
@@ -74,10 +70,7 @@ fn end_solve(
     }
     show::call::after(out)?;
     show::call::lent(out, &u[0..k], &y[0..m], mask, nonzero)?;
-    show::call::end(
-        out,
-        show::alike(table, &u[0..k]) && show::alike(solution, &y[0..m]),
-    )
+    show::call::end(out, table == &u[0..k] && solution == &y[0..m])
 }
 
 fn solve(
@@ -188,10 +181,10 @@ fn solves_of_entries(out: &impl Print) -> io::Result<()> {
 // 96 equations, all 0 but for byte 20143, which is 16. Printed without the bytes.
 fn solve_most(out: &impl Print, shares: u64, table: &mut [u8]) -> io::Result<()> {
     let mut x = [0xeeu8; 96];
-    show::text(out, "solve: 96 equations, and byte 20143 is 16\n  lent: ")?;
+    print!(out; "solve: 96 equations, and byte 20143 is 16\n  lent: ")?;
     show::call::of_order(out, order(16, shares, 96))?;
     say_solving(out, solver::solve(16, shares, 96, table, &mut x, &[], &[]))?;
-    show::text(out, "\n")
+    print!(out; "\n")
 }
 
 fn solves_of_most(out: &impl Print) -> io::Result<()> {

@@ -6,8 +6,9 @@
 
 use course::{Order, Place, Progress, Step};
 use show::call::{BLANK, LARGEST, MASK, TABLE, ZERO_PIVOT, order};
-use solver::{Stepped, Wanting};
+use solver::Stepped;
 use std::io;
+use verdict::Refusal;
 
 // Rows (0,1),(1,0), b = (5,7), in two shares.
 const TWO: [u8; 12] = [4, 4, 4, 5, 10, 15, 3, 2, 10, 10, 15, 8];
@@ -99,7 +100,7 @@ fn begin_step(
 ) -> io::Result<()> {
     show::call::begin(out, "step", words)?;
     show::call::lent(out, table, solution, mask, nonzero)?;
-    show::record(out, p)?;
+    print!(out; "record {p}")?;
     show::call::middle(out)
 }
 
@@ -112,17 +113,10 @@ fn step_in(
     nonzero: &[u8],
     t: &mut [u8],
     x: &mut [u8],
-) -> Stepped {
+) -> Result<Stepped, Refusal> {
     show::call::copy(table, t);
     show::call::copy(solution, x);
     solver::step(p, t, x, mask, nonzero)
-}
-
-// The record after a step, and the rest of its line.
-fn end_record(out: &impl Print, p: Progress, q: Progress, same: bool) -> io::Result<()> {
-    show::record(out, q)?;
-    show::text(out, "; ")?;
-    show::call::end(out, same && show::same_record(p, q))
 }
 
 // The copies begin t and x.
@@ -146,8 +140,9 @@ fn end_step(
     }
     show::call::after(out)?;
     show::call::lent(out, &u[0..k], &y[0..m], mask, nonzero)?;
-    let same = show::alike(table, &u[0..k]) && show::alike(solution, &y[0..m]);
-    end_record(out, p, q, same)
+    let same = table == &u[0..k] && solution == &y[0..m];
+    print!(out; "record {q}; ")?;
+    show::call::end(out, same && p == q)
 }
 
 fn step(
@@ -176,9 +171,12 @@ fn step(
         &mut t[0..k],
         &mut x[0..m],
     );
-    let answer = a.answer;
-    let q = a.next;
-    show::say(out, show::of_stepping(answer))?;
+    show::say(out, &a.map(|s| s.told))?;
+    // a refusal leaves the record as it was
+    let q = match a {
+        Ok(s) => s.next,
+        Err(_) => p,
+    };
     end_step(out, p, q, table, solution, mask, nonzero, &t, &x)
 }
 
@@ -539,16 +537,12 @@ fn wanted(out: &impl Print, words: &str, o: Order, place: Place) -> io::Result<(
 
 fn wanted_of(out: &impl Print, words: &str, p: Progress) -> io::Result<()> {
     show::call::begin(out, "wanted", words)?;
-    show::record(out, p)?;
+    print!(out; "record {p}")?;
     show::call::middle(out)?;
     match solver::wanted(p) {
-        Wanting::Wanted(mask, nonzero) => {
-            show::number(out, "mask draws ", mask as u64)?;
-            show::number(out, ", nonzero draws ", nonzero as u64)?;
-        }
-        Wanting::Refused(r) => show::say(out, show::of_refusal(r))?,
+        Ok(d) => print!(out; "mask draws {}, nonzero draws {}\n", d.mask, d.nonzero),
+        Err(r) => print!(out; "{r}\n"),
     }
-    show::text(out, "\n")
 }
 
 fn wanted_of_sizes(out: &impl Print) -> io::Result<()> {

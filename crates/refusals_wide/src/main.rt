@@ -4,11 +4,14 @@
 // The lists of calls are short: what a check of a function costs grows faster than its length.
 #![tactic(auto)]
 
-use course::{Counts, Place, Step};
+use course::{Draws, Step};
 use pattern::{Pivots, WideOrder, WidePlace, WideProgress};
 use show::call::LARGEST;
+use show::{Buffer, Hex};
 use std::io;
-use wide::{WideCounting, WideSolving, WideStarting, WideStepped, WideStepping};
+use verdict::Refusal;
+use wide::{WideStepped, WideStride};
+use wide_walk::WideEnding;
 
 // Rows (1,2,1),(2,4,3), b = (5,7), in two shares. Its pivots are columns 1 and 3.
 const TABLE: [u8; 16] = [2, 3, 10, 8, 12, 13, 7, 2, 5, 7, 8, 12, 2, 1, 1, 6];
@@ -32,76 +35,55 @@ const BLANK: [u8; 3] = [238, 238, 238];
 // ---- printing
 
 fn say_order(out: &impl Print, o: WideOrder) -> io::Result<()> {
-    show::number(out, "field ", o.field)?;
-    show::number(out, ", shares ", o.shares)?;
-    show::number(out, ", rows ", o.rows)?;
-    show::number(out, ", columns ", o.columns)
+    print!(out;
+        "field {}, shares {}, rows {}, columns {}",
+        o.field, o.shares, o.rows, o.columns
+    )
 }
 
 fn say_place(out: &impl Print, p: WidePlace) -> io::Result<()> {
     match p {
-        WidePlace::At(s) => show::say_place(out, show::of_place(Place::At(s))),
-        WidePlace::Short => show::text(out, "Short"),
-        WidePlace::Done => show::text(out, "Done"),
+        WidePlace::At(s) => print!(out; "{s}"),
+        WidePlace::Short => print!(out; "Short"),
+        WidePlace::Done => print!(out; "Done"),
     }
 }
 
 // The slots' first four are enough here.
-fn say_pivots(out: &impl Print, v: Pivots) -> io::Result<()> {
-    let columns = v.columns;
-    show::number(out, ", pivots ", v.found)?;
-    show::bytes(out, ":", &[columns[0], columns[1], columns[2], columns[3]])
-}
-
 fn say_record(out: &impl Print, p: WideProgress) -> io::Result<()> {
-    let o = p.order;
-    let place = p.place;
-    let v = p.pivots;
-    show::text(out, "record ")?;
-    say_order(out, o)?;
-    show::text(out, ", at ")?;
-    say_place(out, place)?;
-    show::number(out, ", taken ", p.mask)?;
-    show::number(out, " and ", p.nonzero)?;
-    say_pivots(out, v)
+    print!(out; "record ")?;
+    say_order(out, p.order)?;
+    print!(out; ", at ")?;
+    say_place(out, p.place)?;
+    let slots = Hex(&p.pivots.columns[..4]);
+    print!(out;
+        ", taken {} and {}, pivots {}:{slots}",
+        p.mask, p.nonzero, p.pivots.found
+    )
 }
 
-fn say_counts(out: &impl Print, words: &str, c: Counts) -> io::Result<()> {
-    show::number(out, words, c.steps as u64)?;
-    show::number(out, " ", c.mask as u64)?;
-    show::number(out, " ", c.nonzero as u64)
-}
-
-fn say_stepping(out: &impl Print, a: WideStepping) -> io::Result<()> {
+fn say_stepping(out: &impl Print, a: Result<WideStride, Refusal>) -> io::Result<()> {
     match a {
-        WideStepping::Moved => show::text(out, "moved"),
-        WideStepping::Opened(j, x) => say_unknown(out, "opened x_", j, x),
-        WideStepping::Short => show::text(out, "short"),
-        WideStepping::Done(j, x) => say_unknown(out, "done, x_", j, x),
-        WideStepping::Refused(r) => show::say(out, show::of_refusal(r)),
+        Ok(WideStride::Moved) => print!(out; "moved"),
+        Ok(WideStride::Opened(j, x)) => print!(out; "opened x_{j} = {x}"),
+        Ok(WideStride::Short) => print!(out; "short"),
+        Ok(WideStride::Done(j, x)) => print!(out; "done, x_{j} = {x}"),
+        Err(r) => print!(out; "{r}"),
     }
 }
 
-fn say_unknown(out: &impl Print, words: &str, j: u64, x: u8) -> io::Result<()> {
-    show::number(out, words, j)?;
-    show::number(out, " = ", x as u64)
-}
-
-fn say_solving(out: &impl Print, a: WideSolving) -> io::Result<()> {
+fn say_solving(out: &impl Print, a: Result<WideEnding, Refusal>) -> io::Result<()> {
     match a {
-        WideSolving::Solved(c) => say_counts(out, "solved, ", c),
-        WideSolving::Short(c) => say_counts(out, "short, ", c),
-        WideSolving::Refused(r) => show::say(out, show::of_refusal(r)),
+        Ok(WideEnding::Solved(c)) => print!(out; "solved, {c}"),
+        Ok(WideEnding::Short(c)) => print!(out; "short, {c}"),
+        Err(r) => print!(out; "{r}"),
     }
 }
 
-fn say_counting(out: &impl Print, a: WideCounting) -> io::Result<()> {
+fn say_counting(out: &impl Print, a: Result<Draws, Refusal>) -> io::Result<()> {
     match a {
-        WideCounting::Wanted(mask, nonzero) => {
-            show::number(out, "", mask as u64)?;
-            show::number(out, " ", nonzero as u64)
-        }
-        WideCounting::Refused(r) => show::say(out, show::of_refusal(r)),
+        Ok(d) => print!(out; "{} {}", d.mask, d.nonzero),
+        Err(r) => print!(out; "{r}"),
     }
 }
 
@@ -120,16 +102,19 @@ fn start(out: &impl Print, words: &str, o: WideOrder) -> io::Result<()> {
     show::call::begin(out, "wide start", words)?;
     say_order(out, o)?;
     show::call::middle(out)?;
-    let s = wide::start(o.field, o.shares, o.rows, o.columns);
-    let answer = s.answer;
-    let record = s.record;
-    match answer {
-        WideStarting::Fresh => show::text(out, "fresh")?,
-        WideStarting::Refused(r) => show::say(out, show::of_refusal(r))?,
-    }
+    let record = match wide::start(o.field, o.shares, o.rows, o.columns) {
+        Ok(p) => {
+            print!(out; "fresh")?;
+            p
+        }
+        Err(r) => {
+            print!(out; "{r}")?;
+            record_of(order(0, 0, 0, 0), WidePlace::Done, none(), 0, 0)
+        }
+    };
     show::call::after(out)?;
     say_record(out, record)?;
-    show::text(out, "\n")
+    print!(out; "\n")
 }
 
 fn counts(out: &impl Print, words: &str, o: WideOrder) -> io::Result<()> {
@@ -137,7 +122,7 @@ fn counts(out: &impl Print, words: &str, o: WideOrder) -> io::Result<()> {
     say_order(out, o)?;
     show::call::middle(out)?;
     say_counting(out, wide::counts(o.field, o.shares, o.rows, o.columns))?;
-    show::text(out, "\n")
+    print!(out; "\n")
 }
 
 fn both(out: &impl Print, words: &str, o: WideOrder) -> io::Result<()> {
@@ -243,7 +228,7 @@ fn wanted(out: &impl Print, words: &str, p: WideProgress) -> io::Result<()> {
     say_record(out, p)?;
     show::call::middle(out)?;
     say_counting(out, wide::wanted(p))?;
-    show::text(out, "\n")
+    print!(out; "\n")
 }
 
 fn wanted_along(out: &impl Print) -> io::Result<()> {
@@ -267,48 +252,6 @@ fn wanted_ended(out: &impl Print) -> io::Result<()> {
 
 // ---- steps
 
-fn same_place(p: WidePlace, q: WidePlace) -> bool {
-    match p {
-        WidePlace::At(s) => match q {
-            WidePlace::At(t) => show::same(
-                show::of_place(Place::At(s)),
-                show::of_place(Place::At(t)),
-            ),
-            WidePlace::Short => false,
-            WidePlace::Done => false,
-        },
-        WidePlace::Short => match q {
-            WidePlace::At(_) => false,
-            WidePlace::Short => true,
-            WidePlace::Done => false,
-        },
-        WidePlace::Done => match q {
-            WidePlace::At(_) => false,
-            WidePlace::Short => false,
-            WidePlace::Done => true,
-        },
-    }
-}
-
-fn same_order(p: WideOrder, q: WideOrder) -> bool {
-    p.field == q.field && p.shares == q.shares && p.rows == q.rows && p.columns == q.columns
-}
-
-fn same_pivots(v: Pivots, w: Pivots) -> bool {
-    let a = v.columns;
-    let b = w.columns;
-    v.found == w.found && show::alike(&a[..], &b[..])
-}
-
-fn same_record(p: WideProgress, q: WideProgress) -> bool {
-    let a = p.place;
-    let b = q.place;
-    let here = same_place(a, b);
-    let pivots = same_pivots(p.pivots, q.pivots);
-    let order = same_order(p.order, q.order);
-    p.mask == q.mask && p.nonzero == q.nonzero && order && here && pivots
-}
-
 // Lends copies of the table and the solution.
 fn step_in(
     p: WideProgress,
@@ -318,7 +261,7 @@ fn step_in(
     nonzero: &[u8],
     t: &mut [u8],
     x: &mut [u8],
-) -> WideStepped {
+) -> Result<WideStepped, Refusal> {
     show::call::copy(table, t);
     show::call::copy(solution, x);
     wide::step(p, t, x, mask, nonzero)
@@ -357,12 +300,11 @@ fn end_step(
         return show::call::too_long(out);
     }
     show::call::after(out)?;
-    show::buffer(out, "table ", &u[0..k])?;
-    show::buffer(out, "solution ", &y[0..m])?;
+    print!(out; "table {}solution {}", Buffer(&u[0..k]), Buffer(&y[0..m]))?;
     say_record(out, q)?;
-    show::text(out, "; ")?;
-    let same = show::alike(table, &u[0..k]) && show::alike(solution, &y[0..m]);
-    show::call::end(out, same && same_record(p, q))
+    print!(out; "; ")?;
+    let same = table == &u[0..k] && solution == &y[0..m];
+    show::call::end(out, same && p == q)
 }
 
 fn step(
@@ -391,9 +333,12 @@ fn step(
         &mut t[0..k],
         &mut x[0..m],
     );
-    let answer = a.answer;
-    let q = a.next;
-    say_stepping(out, answer)?;
+    say_stepping(out, a.map(|s| s.told))?;
+    // a refusal leaves the record as it was
+    let q = match a {
+        Ok(s) => s.next,
+        Err(_) => p,
+    };
     end_step(out, p, q, table, solution, &t, &x)
 }
 
@@ -618,16 +563,16 @@ fn lifts(out: &impl Print) -> io::Result<()> {
 fn run(out: &impl Print, words: &str, table: [u8; 16]) -> io::Result<()> {
     let mut t = table;
     let mut x = BLANK;
-    show::text(out, words)?;
-    show::text(out, "\n")?;
+    print!(out; "{words}")?;
+    print!(out; "\n")?;
     twelve(out, &mut t[0..16], &mut x[0..3])?;
     end_run(out, &t, &x)
 }
 
 fn end_run(out: &impl Print, t: &[u8; 16], x: &[u8; 3]) -> io::Result<()> {
-    show::buffer(out, "  table ", &t[..])?;
-    show::buffer(out, "solution ", &x[..])?;
-    show::text(out, "\n")
+    print!(out; "  table {}", Buffer(&t[..]))?;
+    print!(out; "solution {}", Buffer(&x[..]))?;
+    print!(out; "\n")
 }
 
 fn twelve(out: &impl Print, t: &mut [u8], x: &mut [u8]) -> io::Result<()> {
@@ -658,33 +603,29 @@ fn two(out: &impl Print, p: WideProgress, t: &mut [u8], x: &mut [u8]) -> io::Res
 
 // So many bytes from a place on, or as many as there are.
 fn part(s: &[u8], at: usize, many: usize) -> &[u8] {
-    if s.len() < at {
+    let Some(rest) = s.get(at..) else {
         return s;
-    }
-    let rest = &s[at..];
-    if rest.len() < many {
-        return rest;
-    }
-    &rest[0..many]
+    };
+    rest.get(..many).unwrap_or(rest)
 }
 
 // One step of it, and nothing where it has ended.
 fn turn(out: &impl Print, p: WideProgress, t: &mut [u8], x: &mut [u8]) -> io::Result<WideProgress> {
-    let a = MASK;
-    let b = NONZERO;
-    let WideCounting::Wanted(mask, nonzero) = wide::wanted(p) else {
+    let Ok(d) = wide::wanted(p) else {
         return Ok(p);
     };
-    let ds = part(&a[..], p.mask as usize, mask);
-    let zs = part(&b[..], p.nonzero as usize, nonzero);
-    let s = wide::step(p, t, x, ds, zs);
-    let answer = s.answer;
-    let next = s.next;
-    show::text(out, "  ")?;
-    say_stepping(out, answer)?;
-    show::text(out, ", ")?;
+    let ds = part(&MASK, p.mask as usize, d.mask);
+    let zs = part(&NONZERO, p.nonzero as usize, d.nonzero);
+    let a = wide::step(p, t, x, ds, zs);
+    let next = match a {
+        Ok(s) => s.next,
+        Err(_) => p,
+    };
+    print!(out; "  ")?;
+    say_stepping(out, a.map(|s| s.told))?;
+    print!(out; ", ")?;
     say_record(out, next)?;
-    show::text(out, "\n")?;
+    print!(out; "\n")?;
     Ok(next)
 }
 
@@ -696,7 +637,7 @@ fn solve_in(
     nonzero: &[u8],
     t: &mut [u8],
     x: &mut [u8],
-) -> WideSolving {
+) -> Result<WideEnding, Refusal> {
     show::call::copy(table, t);
     show::call::copy(solution, x);
     wide::solve(o.field, o.shares, o.rows, o.columns, t, x, mask, nonzero)
@@ -718,12 +659,8 @@ fn end_solve(
         return show::call::too_long(out);
     }
     show::call::after(out)?;
-    show::buffer(out, "table ", &u[0..k])?;
-    show::buffer(out, "solution ", &y[0..m])?;
-    show::call::end(
-        out,
-        show::alike(table, &u[0..k]) && show::alike(solution, &y[0..m]),
-    )
+    print!(out; "table {}solution {}", Buffer(&u[0..k]), Buffer(&y[0..m]))?;
+    show::call::end(out, table == &u[0..k] && solution == &y[0..m])
 }
 
 fn solve(

@@ -14,9 +14,6 @@ use Rattle.sharing.proofs.Pairs.{tab_list, tab_ext}
 pub record Filled (g : ℕ → ℕ) (k : ℕ) (a : List ℕ) : Type 0 where
   pub at : (i : ℕ) → i < k → get_or a i 0 ≡ g i
 
-pub filled_none : (g : ℕ → ℕ) (a : List ℕ) → Filled g 0 a
-filled_none g a = record { at = λ i h. absurd (omega arith) }
-
 pub filled_next : (g : ℕ → ℕ) (k v : ℕ) (a : List ℕ) → k < length a → Filled g k a → v ≡ g k → Filled g (k + 1) (set a k v)
 filled_next g k v a h F e =
     record {

@@ -1,15 +1,30 @@
 -- What `gather` leaves at each byte.
 -- Assumes nothing.
-use mathlib.Core.Path.{◌≡◌, refl, ◌∙◌}
-use Prim.Native.Nat.{ℕ, suc, ◌+◌, ◌*◌, ◌<◌, ◌≤◌}
-use mathlib.Core.List.{List}
+use mathlib.Core.Path.{◌≡◌, refl, sym, ap, ◌∙◌}
+use Prim.Native.Nat.{ℕ, suc, ◌+◌, ◌-◌, ◌*◌, ◌<◌, ◌≤◌}
+use mathlib.Core.List.{List, ◌++◌}
 use native.Mathlib.Omega.{arith}
 use native.Mathlib.Decide.{ℕ_discrete}
-use lib.ListN.{length, get_or, set, length-set}
-use lib.Seq.{get_or-set_same, get_or-set_other}
+use lib.ListN.{length, get_or, set, take, drop, length-set}
+use borrow.Rule.Slice.PartMut.{put_mid, post_of}
+use Rattle.std.proofs.lemmas.List.{take-append-drop, set-append_left, set-append_right}
+use lib.Seq.{get_or-set_same, get_or-set_other, length-take-le}
 use Rattle.sharing.proofs.Pairs.{run_holds}
 use Rattle.row.proofs.Places.{place_in}
 use Rattle.row.specs.Code.Gather.{gathered_byte, block_turn, gather_block, gather_all}
+
+-- ---- a part of a list that is written place by place
+
+pub part_none : (a k : ℕ) (xs : List ℕ) → put_mid a k xs (take k (drop a xs)) ≡ xs
+part_none a k xs = ap (λ (y : List ℕ). take a xs ++ y) (take-append-drop k (drop a xs)) ∙ take-append-drop a xs
+
+pub part_next : (a k q v : ℕ) (xs ys : List ℕ) → a ≤ length xs → q < length ys → put_mid a k xs (set ys q v) ≡ set (put_mid a k xs ys) (a + q) v
+part_next a k q v xs ys l h =
+    let e : a + q - a ≡ q = omega arith in
+    sym (set-append_right (take a xs) (ys ++ post_of a k xs) a (a + q) v (length-take-le a xs l) (omega arith)
+    ∙ ap (λ (i : ℕ). take a xs ++ set (ys ++ post_of a k xs) i v) e ∙ ap (λ (y : List ℕ). take a xs ++ y) (set-append_left ys (post_of a k xs) q v h))
+
+-- ---- the blocks
 
 module _ (n l blocks span : ℕ) (c out : List ℕ) where
   -- after u blocks, and j bytes of the next one

@@ -4,6 +4,7 @@ pub mod Cells
 pub mod Gathering
 pub mod GatherLaw
 pub mod Producing
+pub mod Shapes
 pub mod TermLaw
 pub mod OneTurn
 pub mod Spreading

@@ -1,7 +1,7 @@
 -- Where a byte stands among rows of equal length: place o of row d is d·span + o, within the rows, and no other row's.
 -- Assumes nothing.
 use mathlib.Core.Path.{◌≡◌, ap}
-use Prim.Native.Nat.{ℕ, ◌+◌, ◌*◌, ◌<◌, ◌≤◌}
+use Prim.Native.Nat.{ℕ, ◌+◌, ◌*◌, ◌<◌}
 use native.Mathlib.Omega.{arith}
 use native.Mathlib.Decide.{dec_lt}
 use native.Mathlib.Nat.{suc-mul, mul-le-mul_right}
@@ -9,10 +9,6 @@ use native.Mathlib.Nat.{suc-mul, mul-le-mul_right}
 -- place o of row d, of n rows of span
 pub place_in : (n span d o : ℕ) → d < n → o < span → d * span + o < n * span
 place_in n span d o hd ho = omega (arith, suc-mul d span, mul-le-mul_right span hd)
-
--- a row but the first has n places before it
-pub row_room_lem : (n i span : ℕ) → n ≤ span → n ≤ (i + 1) * span
-row_room_lem n i span h = let e : 1 * span ≤ (i + 1) * span = mul-le-mul_right span (omega arith) in omega arith
 
 -- a place is in one row
 pub same_row : (span d o e p : ℕ) → o < span → p < span → d * span + o ≡ e * span + p → d ≡ e

@@ -7,7 +7,6 @@ use mathlib.Core.List.{List}
 use lib.ListN.{length, get_or, take, drop}
 use borrow.Author.Tests.{ne_eqb}
 use Rattle.field.specs.Field.{Ops, Field, F16, F256, field_of, pick}
-use Rattle.field.proofs.Fields.{field_of_lem}
 use Rattle.field.proofs.Inverses.{mul_left}
 use Rattle.sharing.specs.Run.{tab, pairs}
 use Rattle.sharing.specs.Rules.{draw_at, product}
@@ -37,17 +36,6 @@ module _ (F : Ops) (L : Field F) (factor : List ℕ) where
 
 -- ---- the two fields
 
-pub field_16 : (f : ℕ) → f ≡ 16 → field_of f ≡ field_of 16
-field_16 f e = ap field_of e
-
 pub field_256 : (f : ℕ) → (f ≡ 16 → ⊥) → field_of f ≡ field_of 256
 unfolding field_of
 field_256 f h = ap (λ (t : Bool). pick t F16 F256) (ne_eqb f 16 h)
-
--- what is reduced in the field that f names is below q of the field that it is
-pub below_of : (f g : ℕ) (factor : List ℕ) → field_of f ≡ field_of g → Below (field_of g).q (tab (length factor) (draw_at (field_of f) factor))
-below_of f g factor e = rw e (reduced_below (field_of g) (field_of_lem g) factor)
-
-pub products_of : (f g n columns : ℕ) (ds factor row out : List ℕ) → field_of f ≡ field_of g
-    → Products (field_of g) n columns ds (tab (length factor) (draw_at (field_of f) factor)) row out → Products (field_of f) n columns ds factor row out
-products_of f g n columns ds factor row out e p = products_reduced (field_of f) (field_of_lem f) factor (rw e (rw e at p))

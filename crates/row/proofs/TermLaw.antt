@@ -2,22 +2,37 @@
 -- Assumes nothing.
 use mathlib.Core.Path.{◌≡◌, refl, sym, ap, ap₂, ◌∙◌}
 use mathlib.Core.Bool.{Bool, true, false}
-use Prim.Native.Nat.{ℕ, zero, suc, ◌+◌, ◌*◌, ◌/◌, ◌%◌, ◌^◌, ◌<◌}
+use Prim.Native.Nat.{ℕ, zero, suc, ◌+◌, ◌-◌, ◌*◌, ◌/◌, ◌%◌, ◌^◌, ◌<◌}
 use mathlib.Core.List.{List}
 use native.Mathlib.Omega.{arith}
 use native.Mathlib.Nat.{mod-lt, mod-eq_of_lt, pow-suc}
 use lib.Arith.{mod-mul}
-use lib.Bits.{bit_xor}
+use lib.Bits.{bit_xor, bit_and, and_mask}
 use lib.Dec.{T, lit<}
 use lib.ListN.{get_or}
 use lib.Pow.{pow_pos}
 use Rattle.field.specs.Poly.{product}
 use Rattle.field.specs.Field.{pick, binary, Binary, F16, F256, field_of, bits}
 use Rattle.field.proofs.Linear.{all}
-use Rattle.field.proofs.Shift.{double, shift_add, same?, shift_add-product, test4, test8}
+use Rattle.field.proofs.Xor.{xor_assoc}
+use Rattle.field.specs.Code.Shift.{double, shift_add}
+use Rattle.field.proofs.Shift.{same?, shift_add-product, test4, test8}
 use Rattle.sharing.proofs.Loops.{taken_more}
 use Rattle.row.specs.Code.Products.{term}
 use Rattle.row.specs.Code.Streams.{doubled}
+
+-- the code's turn t is the definition's step
+pub term_next : (bits r : ℕ) (m : List ℕ) (v h g t : ℕ) → t < bits
+    → bit_xor (bit_xor v (bit_and h 1 * get_or m (t * r + g) 0)) (term m r (bits - (t + 1)) ((t + 1) * r + g) (h / 2)) ≡ bit_xor v (term m r (bits - t) (t * r + g) h)
+unfolding term
+term_next bits r m v h g t l =
+    let k : ℕ = bits - (t + 1) in
+    let e : suc k ≡ bits - t = omega arith in
+    let p : (t + 1) * r + g ≡ t * r + g + r = omega (arith, taken_more (t * r) t r refl) in
+    ap (λ (x : ℕ). bit_xor (bit_xor v (bit_and h 1 * get_or m (t * r + g) 0)) (term m r k x (h / 2))) p
+    ∙ xor_assoc v (bit_and h 1 * get_or m (t * r + g) 0) (term m r k (t * r + g + r) (h / 2))
+    ∙ ap (λ (x : ℕ). bit_xor v (bit_xor (x * get_or m (t * r + g) 0) (term m r k (t * r + g + r) (h / 2)))) (and_mask h 1)
+    ∙ ap (λ (x : ℕ). bit_xor v (term m r x (t * r + g) h)) e
 
 -- k turns look at k bits
 lowest : (w p k a y : ℕ) → shift_add w p k a y ≡ shift_add w p k a (y % 2 ^ k)

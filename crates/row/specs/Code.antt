@@ -1,3 +1,4 @@
+pub mod Shape
 pub mod Spread
 pub mod Streams
 pub mod Products

@@ -11,21 +11,22 @@
 // r bytes for each bit of an element. Read from d places before, it has at each byte the share that row d wants.
 #![tactic(auto)]
 
-ghost use Rattle.std.specs.Prelude.{◌≡◌, ◌+◌, ◌-◌, ◌*◌, ◌<◌, ◌≤◌, length};
+ghost use Rattle.std.specs.Prelude.{◌≡◌, ◌+◌, ◌-◌, ◌*◌, ◌^◌, ◌<◌, ◌≤◌, length};
 ghost use Rattle.field.specs.Field.{field_of, draw};
 ghost use Rattle.sharing.specs.Run.{run, tab, before, pairs, pairs_of, over_pairs};
 ghost use Rattle.sharing.specs.Rules.{draw_at};
-ghost use Rattle.sharing.specs.Lists.{Below};
 ghost use Rattle.sharing.specs.Bounds.{most_width, row_room};
-ghost use Rattle.row.specs.Code.Streams.{doubled, once_turn, repeated, doubled_rows};
+ghost use Rattle.row.specs.Code.Streams.{doubled, repeated, doubled_rows};
 ghost use Rattle.row.specs.Code.Spread.{spread_turn, spread_all};
 ghost use Rattle.row.specs.Code.Products.{term, byte_products, product_byte_turn, all_products};
 ghost use Rattle.row.specs.Code.Gather.{later, gathered_byte, block_turn, gather_all};
+ghost use Rattle.row.specs.Code.Shape.{Shape};
 ghost use Rattle.row.specs.Rows.{Products};
 
 // Room for a row, and for n work rows: whole blocks of 16 or 48 bytes.
 pub const ROW_ROOM: usize = (sharing::MOST_WIDTH * 4 + 15) / 16 * 16;
 
+// stays: three constants, since Rattle has no computed const argument, and the room is fixed memory (a rule of the project).
 const WORK_ROOM_2: usize = 2 * ((sharing::MOST_WIDTH * 2 + 47) / 48 * 48);
 
 const WORK_ROOM_3: usize = 3 * ((sharing::MOST_WIDTH * 3 + 47) / 48 * 48);
@@ -33,109 +34,105 @@ const WORK_ROOM_3: usize = 3 * ((sharing::MOST_WIDTH * 3 + 47) / 48 * 48);
 const WORK_ROOM_4: usize = 4 * ROW_ROOM;
 
 // An element times the polynomial x.
-fn doubled(bits: usize, x: u8) -> u8
-    ensures { result ≡ doubled bits x }
+fn doubled<const BITS: usize>(x: u8) -> u8
+    ensures { result ≡ doubled BITS x }
 {
-    if bits == 4 {
+    if BITS == 4 {
         ((x << 1) % 16) ^ (((x >> 3) % 2) * 3)
     } else {
         (x << 1) ^ (((x >> 7) % 2) * 27)
     }
 }
 
-fn repeat_once(n: usize, m: &mut [u8], a: &[u8], at: usize)
-    requires { (length a.now ≡ n) × (at + n ≤ length m.old) }
-    ensures { m.new ≡ run (once_turn a.now at) n m.old }
+// The factor's shares, over and over.
+// stays: by hand: with `copy_from_slice` a whole product of two shares takes 12 of a hundred more instructions (measured).
+fn repeat<const N: usize>(turns: usize, m: &mut [u8], a: &[u8; N])
+    requires { turns * N ≤ length m.old }
+    ensures { m.new ≡ repeated N turns a.now m.old }
 {
-    for s in 0..n {
-        m[at + s] = a[s];
-    }
-}
-
-fn repeat(n: usize, turns: usize, m: &mut [u8], a: &[u8])
-    requires { (length a.now ≡ n) × (turns * n ≤ length m.old) }
-    ensures { m.new ≡ repeated n turns a.now m.old }
-{
-    let mut at: usize = 0;
     for u in 0..turns {
-        repeat_once(n, m, a, at);
-        at += n;
+        for (s, x) in a.iter().enumerate() {
+            m[u * N + s] = *x;
+        }
     }
 }
 
 // Each row of the stream is the one before it, doubled.
-fn double_rows(bits: usize, r: usize, m: &mut [u8])
-    requires { (1 ≤ bits) × (bits ≤ 8) × (r ≤ 64) × (bits * r ≤ length m.old) }
-    ensures { m.new ≡ doubled_rows bits r m.old }
+// stays: by the index: each turn reads one place of m and writes another, and `split_at_mut` for each row is no plainer.
+fn double_rows<const BITS: usize>(r: usize, m: &mut [u8])
+    requires { (1 ≤ BITS) × (BITS ≤ 8) × (r ≤ 64) × (BITS * r ≤ length m.old) }
+    ensures { m.new ≡ doubled_rows BITS r m.old }
 {
-    let e = (bits - 1) * r;
-    for q in 0..e {
-        m[q + r] = doubled(bits, m[q]);
+    for q in 0..(BITS - 1) * r {
+        m[q + r] = doubled::<BITS>(m[q]);
     }
 }
 
+// stays: span beside c, and r beside m: a struct around what is lent here to write and in `gather` to read is no plainer.
 // The pairs of i; the first of them is pair number at of the column's, whose first byte is at a and whose first draw is number b.
-fn spread_of(n: usize, span: usize, c: &mut [u8], a: usize, z: &[u8], b: usize, i: usize, at: usize)
-    requires { (n ≤ 4) × (i < n) × (at ≡ before n i) × (a + n ≤ span) × (span ≤ row_room) × (n * span ≤ length c.old) × (b + pairs n ≤ length z.now) }
-    ensures { c.new ≡ pairs_of (spread_turn span z.now a b) n i c.old }
+fn spread_of<const N: usize>(
+    span: usize,
+    c: &mut [u8],
+    a: usize,
+    z: &[u8],
+    b: usize,
+    i: usize,
+    at: usize,
+)
+    requires { (N ≤ 4) × (i < N) × (at ≡ before N i) × (a + N ≤ span) × (span ≤ row_room) × (N * span ≤ length c.old) × (b + pairs N ≤ length z.now) }
+    ensures { c.new ≡ pairs_of (spread_turn span z.now a b) N i c.old }
 {
-    let m = n - 1 - i;
     let p = a + i;
     let f = b + at;
-    for v in 0..m {
+    for (v, r) in z[f..f + (N - 1 - i)].iter().enumerate() {
         let d = v + 1;
-        let k = f + v;
         let g = d * span + p + d;
-        c[p] ^= z[k];
-        c[g] ^= z[k];
+        c[p] ^= *r;
+        c[g] ^= *r;
     }
 }
 
 // One column.
-fn spread_column(n: usize, span: usize, c: &mut [u8], a: usize, z: &[u8], b: usize)
-    requires { (n ≤ 4) × (a + n ≤ span) × (span ≤ row_room) × (n * span ≤ length c.old) × (b + pairs n ≤ length z.now) }
-    ensures { c.new ≡ over_pairs (spread_turn span z.now a b) n c.old }
+fn spread_column<const N: usize>(span: usize, c: &mut [u8], a: usize, z: &[u8], b: usize)
+    requires { (N ≤ 4) × (a + N ≤ span) × (span ≤ row_room) × (N * span ≤ length c.old) × (b + pairs N ≤ length z.now) }
+    ensures { c.new ≡ over_pairs (spread_turn span z.now a b) N c.old }
 {
+    // stays: counted, since i(2N-1-i)/2, the number of pairs before those of i, is no plainer.
     let mut at: usize = 0;
-    for i in 0..n {
-        spread_of(n, span, c, a, z, b, i, at);
-        at += n - 1 - i;
+    for i in 0..N {
+        spread_of::<N>(span, c, a, z, b, i, at);
+        at += N - 1 - i;
     }
 }
 
-fn spread(n: usize, np: usize, columns: usize, span: usize, c: &mut [u8], z: &[u8])
-    requires { (n ≤ 4) × (np ≡ pairs n) × (columns * n ≤ span) × (span ≤ row_room) × (n * span ≤ length c.old) × (columns * pairs n ≤ length z.now) }
-    ensures { c.new ≡ spread_all n columns span z.now c.old }
+fn spread<const N: usize>(columns: usize, span: usize, c: &mut [u8], z: &[u8])
+    requires { (2 ≤ N) × (N ≤ 4) × (columns * N ≤ span) × (span ≤ row_room) × (N * span ≤ length c.old) × (columns * pairs N ≤ length z.now) }
+    ensures { c.new ≡ spread_all N columns span z.now c.old }
 {
-    let mut a: usize = 0;
-    let mut b: usize = 0;
+    let np = sharing::pair_count(N);
     for u in 0..columns {
-        spread_column(n, span, c, a, z, b);
-        a += n;
-        b += np;
+        spread_column::<N>(span, c, u * N, z, u * np);
     }
 }
 
 // The byte y times the share that stands at g of m.
+// stays: bits is an argument: as a const parameter it makes jumps by the bits of b, and 3 to 6 times the instructions (measured).
 fn term(bits: usize, r: usize, m: &[u8], g: usize, y: u8) -> u8
     requires { (bits ≤ 8) × (r ≤ 64) × (g < r) × (bits * r ≤ length m.now) }
     ensures { result ≡ term m.now r bits g y }
 {
     let mut v: u8 = 0;
     let mut h = y;
-    let mut at: usize = g;
     for t in 0..bits {
-        v ^= (h & 1) * m[at];
+        v ^= (h & 1) * m[t * r + g];
         h >>= 1;
-        at += r;
     }
     v
 }
 
 // Byte o of the row, which is byte q of its block.
-fn product_byte(
+fn product_byte<const N: usize>(
     bits: usize,
-    n: usize,
     r: usize,
     span: usize,
     c: &mut [u8],
@@ -144,242 +141,94 @@ fn product_byte(
     o: usize,
     q: usize,
 )
-    requires { (bits ≤ 8) × (r ≤ 64) × (q + n < r) × (bits * r ≤ length m.now) × (n ≤ 4) × (o < span) × (span ≤ row_room) × (n * span ≤ length c.old) }
-    ensures { c.new ≡ byte_products bits n r span m.now y o q c.old }
+    requires { (bits ≤ 8) × (r ≤ 64) × (q + N < r) × (bits * r ≤ length m.now) × (N ≤ 4) × (o < span) × (span ≤ row_room) × (N * span ≤ length c.old) }
+    ensures { c.new ≡ byte_products bits N r span m.now y o q c.old }
 {
-    let mut at: usize = o;
-    for d in 0..n {
-        let g = q + n - d;
-        c[at] ^= term(bits, r, m, g, y);
-        at += span;
+    for d in 0..N {
+        let g = q + N - d;
+        c[d * span + o] ^= term(bits, r, m, g, y);
     }
 }
 
-// The block of l bytes that begins at `at`.
-fn product_block(
+// The block of BLOCK bytes that begins at `at`.
+fn product_block<const N: usize, const BLOCK: usize>(
     bits: usize,
-    n: usize,
-    l: usize,
-    r: usize,
     span: usize,
     c: &mut [u8],
     b: &[u8],
     m: &[u8],
     at: usize,
 )
-    requires { (bits ≤ 8) × (r ≤ 64) × (l + n ≤ r) × (bits * r ≤ length m.now) × (n ≤ 4) × (at + l ≤ span) × (span ≤ row_room) × (n * span ≤ length c.old) × (at + l ≤ length b.now) }
-    ensures { c.new ≡ run (product_byte_turn bits n r span b.now m.now at) l c.old }
+    requires { (bits ≤ 8) × (BLOCK ≤ 48) × (bits * (BLOCK + 16) ≤ length m.now) × (N ≤ 4) × (at + BLOCK ≤ span) × (span ≤ row_room) × (N * span ≤ length c.old) × (at + BLOCK ≤ length b.now) }
+    ensures { c.new ≡ run (product_byte_turn bits N (BLOCK + 16) span b.now m.now at) BLOCK c.old }
 {
-    for q in 0..l {
-        let o = at + q;
-        product_byte(bits, n, r, span, c, m, b[o], o, q);
+    for (q, y) in b[at..at + BLOCK].iter().enumerate() {
+        product_byte::<N>(bits, BLOCK + 16, span, c, m, *y, at + q, q);
     }
 }
 
-fn products(
+fn products<const N: usize, const BLOCK: usize>(
     bits: usize,
-    n: usize,
-    l: usize,
-    r: usize,
     blocks: usize,
     span: usize,
     c: &mut [u8],
     b: &[u8],
     m: &[u8],
 )
-    requires { (bits ≤ 8) × (r ≤ 64) × (l + n ≤ r) × (bits * r ≤ length m.now) × (n ≤ 4) × (blocks * l ≤ span) × (span ≤ row_room) × (n * span ≤ length c.old) × (blocks * l ≤ length b.now) }
-    ensures { c.new ≡ all_products bits n l r blocks span b.now m.now c.old }
+    requires { (bits ≤ 8) × (BLOCK ≤ 48) × (bits * (BLOCK + 16) ≤ length m.now) × (N ≤ 4) × (blocks * BLOCK ≤ span) × (span ≤ row_room) × (N * span ≤ length c.old) × (blocks * BLOCK ≤ length b.now) }
+    ensures { c.new ≡ all_products bits N BLOCK (BLOCK + 16) blocks span b.now m.now c.old }
 {
-    let mut at: usize = 0;
     for u in 0..blocks {
-        product_block(bits, n, l, r, span, c, b, m, at);
-        at += l;
+        product_block::<N, BLOCK>(bits, span, c, b, m, u * BLOCK);
     }
 }
 
-// All ones where byte q of a block has a share d before it in its own column, and else 0. Worked out and not looked up (R-4): n, d and q are
+// All ones where byte q of a block has a share d before it in its own column, and else 0. Worked out and not looked up (R-4): N, d and q are
 // known where the block's loop is unrolled or made of vectors.
-fn later(n: usize, d: usize, q: usize) -> u8
-    requires { 1 ≤ n }
-    ensures { result ≡ later n d q }
+fn later<const N: usize>(d: usize, q: usize) -> u8
+    requires { 1 ≤ N }
+    ensures { result ≡ later N d q }
 {
-    if d <= q % n { 255 } else { 0 }
+    if d <= q % N { 255 } else { 0 }
 }
 
 // Byte o, which is byte q of its block. What stands in row d and what stands d places before in row n - d join each other first: the draw
 // is in one of the two.
-fn gather_byte(n: usize, span: usize, c: &[u8], o: usize, q: usize) -> u8
-    requires { (1 ≤ n) × (n ≤ 4) × (n ≤ span) × (o < span) × (span ≤ row_room) × (n * span ≤ length c.now) }
-    ensures { result ≡ gathered_byte n span c.now o q }
+fn gather_byte<const N: usize>(span: usize, c: &[u8], o: usize, q: usize) -> u8
+    requires { (1 ≤ N) × (N ≤ 4) × (N ≤ span) × (o < span) × (span ≤ row_room) × (N * span ≤ length c.now) }
+    ensures { result ≡ gathered_byte N span c.now o q }
 {
     let mut v = c[o];
-    let e = n - 1;
-    for i in 0..e {
-        let d = e - i;
+    for i in 0..N - 1 {
+        let d = N - 1 - i;
         let g = d * span + o;
         let h = (i + 1) * span + o - d;
-        v ^= (c[g] ^ c[h]) & later(n, d, q);
+        v ^= (c[g] ^ c[h]) & later::<N>(d, q);
     }
     v
 }
 
-// The block of l bytes that begins at `at`.
-fn gather_block(n: usize, l: usize, span: usize, out: &mut [u8], c: &[u8], at: usize)
-    requires { (1 ≤ n) × (n ≤ 4) × (n ≤ span) × (at + l ≤ span) × (span ≤ row_room) × (n * span ≤ length c.now) × (span ≤ length out.old) }
-    ensures { out.new ≡ run (block_turn n span c.now at) l out.old }
+// The block of BLOCK bytes that begins at `at`.
+fn gather_block<const N: usize, const BLOCK: usize>(
+    span: usize,
+    out: &mut [u8],
+    c: &[u8],
+    at: usize,
+)
+    requires { (1 ≤ N) × (N ≤ 4) × (N ≤ span) × (at + BLOCK ≤ span) × (span ≤ row_room) × (N * span ≤ length c.now) × (span ≤ length out.old) }
+    ensures { out.new ≡ run (block_turn N span c.now at) BLOCK out.old }
 {
-    for q in 0..l {
-        let o = at + q;
-        out[o] = gather_byte(n, span, c, o, q);
+    for (q, x) in out[at..at + BLOCK].iter_mut().enumerate() {
+        *x = gather_byte::<N>(span, c, at + q, q);
     }
 }
 
-fn gather(n: usize, l: usize, blocks: usize, span: usize, out: &mut [u8], c: &[u8])
-    requires { (1 ≤ n) × (n ≤ 4) × (n ≤ span) × (blocks * l ≤ span) × (span ≤ row_room) × (n * span ≤ length c.now) × (span ≤ length out.old) }
-    ensures { out.new ≡ gather_all n l blocks span c.now out.old }
+fn gather<const N: usize, const BLOCK: usize>(blocks: usize, span: usize, out: &mut [u8], c: &[u8])
+    requires { (1 ≤ N) × (N ≤ 4) × (N ≤ span) × (blocks * BLOCK ≤ span) × (span ≤ row_room) × (N * span ≤ length c.now) × (span ≤ length out.old) }
+    ensures { out.new ≡ gather_all N BLOCK blocks span c.now out.old }
 {
-    let mut at: usize = 0;
     for u in 0..blocks {
-        gather_block(n, l, span, out, c, at);
-        at += l;
-    }
-}
-
-// The passes for a field and a number of shares. The numbers stand in the calls themselves, so that the compiler unrolls what goes over shares
-// and bits: the blocks are 16 bytes, or 48, where 16 is no multiple of n or the body is so small that it would unroll the block too.
-fn product_16_2(columns: usize, row: &mut [u8], a: &[u8], mask: &[u8])
-    requires le_columns { (1 ≤ columns) × (columns ≤ most_width) × (length row.old ≡ row_room) × (length a.now ≡ 2) × (columns * pairs 2 ≤ length mask.now) }
-    requires below { Below 16 a.now }
-    ensures { Products (field_of 16) 2 columns mask.now a.now row.old row.new }
-{
-    let len = columns * 2;
-    let blocks = (len + 15) / 16;
-    let wide = (len + 47) / 48;
-    let span = wide * 48;
-    let mut c = [0u8; WORK_ROOM_2];
-    let mut m = [0u8; 128];
-    spread(2, 1, columns, span, &mut c[..], mask);
-    repeat(2, 16, &mut m[..], a);
-    double_rows(4, 32, &mut m[..]);
-    products(4, 2, 16, 32, blocks, span, &mut c[..], row, &m[..]);
-    gather(2, 48, wide, span, row, &c[..]);
-}
-
-fn product_256_2(columns: usize, row: &mut [u8], a: &[u8], mask: &[u8])
-    requires le_columns { (1 ≤ columns) × (columns ≤ most_width) × (length row.old ≡ row_room) × (length a.now ≡ 2) × (columns * pairs 2 ≤ length mask.now) }
-    requires below { Below 256 a.now }
-    ensures { Products (field_of 256) 2 columns mask.now a.now row.old row.new }
-{
-    let len = columns * 2;
-    let blocks = (len + 15) / 16;
-    let wide = (len + 47) / 48;
-    let span = wide * 48;
-    let mut c = [0u8; WORK_ROOM_2];
-    let mut m = [0u8; 256];
-    spread(2, 1, columns, span, &mut c[..], mask);
-    repeat(2, 16, &mut m[..], a);
-    double_rows(8, 32, &mut m[..]);
-    products(8, 2, 16, 32, blocks, span, &mut c[..], row, &m[..]);
-    gather(2, 48, wide, span, row, &c[..]);
-}
-
-fn product_16_3(columns: usize, row: &mut [u8], a: &[u8], mask: &[u8])
-    requires le_columns { (1 ≤ columns) × (columns ≤ most_width) × (length row.old ≡ row_room) × (length a.now ≡ 3) × (columns * pairs 3 ≤ length mask.now) }
-    requires below { Below 16 a.now }
-    ensures { Products (field_of 16) 3 columns mask.now a.now row.old row.new }
-{
-    let len = columns * 3;
-    let blocks = (len + 47) / 48;
-    let wide = (len + 47) / 48;
-    let span = wide * 48;
-    let mut c = [0u8; WORK_ROOM_3];
-    let mut m = [0u8; 256];
-    spread(3, 3, columns, span, &mut c[..], mask);
-    repeat(3, 21, &mut m[..], a);
-    double_rows(4, 64, &mut m[..]);
-    products(4, 3, 48, 64, blocks, span, &mut c[..], row, &m[..]);
-    gather(3, 48, wide, span, row, &c[..]);
-}
-
-fn product_256_3(columns: usize, row: &mut [u8], a: &[u8], mask: &[u8])
-    requires le_columns { (1 ≤ columns) × (columns ≤ most_width) × (length row.old ≡ row_room) × (length a.now ≡ 3) × (columns * pairs 3 ≤ length mask.now) }
-    requires below { Below 256 a.now }
-    ensures { Products (field_of 256) 3 columns mask.now a.now row.old row.new }
-{
-    let len = columns * 3;
-    let blocks = (len + 47) / 48;
-    let wide = (len + 47) / 48;
-    let span = wide * 48;
-    let mut c = [0u8; WORK_ROOM_3];
-    let mut m = [0u8; 512];
-    spread(3, 3, columns, span, &mut c[..], mask);
-    repeat(3, 21, &mut m[..], a);
-    double_rows(8, 64, &mut m[..]);
-    products(8, 3, 48, 64, blocks, span, &mut c[..], row, &m[..]);
-    gather(3, 48, wide, span, row, &c[..]);
-}
-
-fn product_16_4(columns: usize, row: &mut [u8], a: &[u8], mask: &[u8])
-    requires le_columns { (1 ≤ columns) × (columns ≤ most_width) × (length row.old ≡ row_room) × (length a.now ≡ 4) × (columns * pairs 4 ≤ length mask.now) }
-    requires below { Below 16 a.now }
-    ensures { Products (field_of 16) 4 columns mask.now a.now row.old row.new }
-{
-    let len = columns * 4;
-    let blocks = (len + 15) / 16;
-    let wide = (len + 15) / 16;
-    let span = wide * 16;
-    let mut c = [0u8; WORK_ROOM_4];
-    let mut m = [0u8; 128];
-    spread(4, 6, columns, span, &mut c[..], mask);
-    repeat(4, 8, &mut m[..], a);
-    double_rows(4, 32, &mut m[..]);
-    products(4, 4, 16, 32, blocks, span, &mut c[..], row, &m[..]);
-    gather(4, 16, wide, span, row, &c[..]);
-}
-
-fn product_256_4(columns: usize, row: &mut [u8], a: &[u8], mask: &[u8])
-    requires le_columns { (1 ≤ columns) × (columns ≤ most_width) × (length row.old ≡ row_room) × (length a.now ≡ 4) × (columns * pairs 4 ≤ length mask.now) }
-    requires below { Below 256 a.now }
-    ensures { Products (field_of 256) 4 columns mask.now a.now row.old row.new }
-{
-    let len = columns * 4;
-    let blocks = (len + 15) / 16;
-    let wide = (len + 15) / 16;
-    let span = wide * 16;
-    let mut c = [0u8; WORK_ROOM_4];
-    let mut m = [0u8; 256];
-    spread(4, 6, columns, span, &mut c[..], mask);
-    repeat(4, 8, &mut m[..], a);
-    double_rows(8, 32, &mut m[..]);
-    products(8, 4, 16, 32, blocks, span, &mut c[..], row, &m[..]);
-    gather(4, 16, wide, span, row, &c[..]);
-}
-
-fn product_16(n: usize, columns: usize, row: &mut [u8], a: &[u8], mask: &[u8])
-    requires le_n { (2 ≤ n) × (n ≤ 4) × (1 ≤ columns) × (columns ≤ most_width) × (length row.old ≡ row_room) × (length a.now ≡ n) × (columns * pairs n ≤ length mask.now) }
-    requires below { Below 16 a.now }
-    ensures { Products (field_of 16) n columns mask.now a.now row.old row.new }
-{
-    if n == 2 {
-        product_16_2(columns, row, a, mask);
-    } else if n == 3 {
-        product_16_3(columns, row, a, mask);
-    } else {
-        product_16_4(columns, row, a, mask);
-    }
-}
-
-fn product_256(n: usize, columns: usize, row: &mut [u8], a: &[u8], mask: &[u8])
-    requires le_n { (2 ≤ n) × (n ≤ 4) × (1 ≤ columns) × (columns ≤ most_width) × (length row.old ≡ row_room) × (length a.now ≡ n) × (columns * pairs n ≤ length mask.now) }
-    requires below { Below 256 a.now }
-    ensures { Products (field_of 256) n columns mask.now a.now row.old row.new }
-{
-    if n == 2 {
-        product_256_2(columns, row, a, mask);
-    } else if n == 3 {
-        product_256_3(columns, row, a, mask);
-    } else {
-        product_256_4(columns, row, a, mask);
+        gather_block::<N, BLOCK>(span, out, c, u * BLOCK);
     }
 }
 
@@ -388,9 +237,39 @@ fn reduced(f: u64, a: &mut [u8], factor: &[u8])
     requires { length a.old ≡ length factor.now }
     ensures { a.new ≡ tab (length factor.now) (draw_at (field_of f) factor.now) }
 {
-    for s in 0..a.len() {
-        a[s] = field::reduce(f, factor[s]);
+    for (s, x) in a.iter_mut().enumerate() {
+        *x = field::reduce(f, factor[s]);
     }
+}
+
+// The passes for a field and a number of shares. The numbers are const parameters, so that the compiler unrolls what goes over shares and bits.
+// The products go by blocks of BLOCK bytes and the sums by blocks of WIDE: 16, or 48, where 16 is no multiple of N or the body is so small that it
+// would unroll the block too. A row of the stream is 16 bytes longer than a block, since it is read from up to N places on.
+fn passes<
+    const BITS: usize,
+    const N: usize,
+    const BLOCK: usize,
+    const WIDE: usize,
+    const STREAM: usize,
+    const ROOM: usize,
+>(columns: usize, row: &mut [u8], factor: &[u8], mask: &[u8])
+    requires shape { Shape BITS N BLOCK WIDE STREAM ROOM }
+    requires le_columns { (1 ≤ columns) × (columns ≤ most_width) × (length row.old ≡ row_room) × (length factor.now ≡ N) × (columns * pairs N ≤ length mask.now) }
+    ensures { Products (field_of (2 ^ BITS)) N columns mask.now factor.now row.old row.new }
+{
+    let len = columns * N;
+    let blocks = (len + (BLOCK - 1)) / BLOCK;
+    let wide = (len + (WIDE - 1)) / WIDE;
+    let span = wide * WIDE;
+    let mut a = [0u8; N];
+    let mut c = [0u8; ROOM];
+    let mut m = [0u8; STREAM];
+    reduced(1 << BITS, &mut a[..], factor);
+    spread::<N>(columns, span, &mut c[..], mask);
+    repeat::<N>((BLOCK + 16) / N, &mut m[..], &a);
+    double_rows::<BITS>(BLOCK + 16, &mut m[..]);
+    products::<N, BLOCK>(BITS, blocks, span, &mut c[..], row, &m[..]);
+    gather::<N, WIDE>(wide, span, row, &c[..]);
 }
 
 // The entries of a row, which begins with `columns` of them, become Product(factor, entry), each share modulo q.
@@ -398,11 +277,12 @@ pub fn product(f: u64, n: usize, columns: usize, row: &mut [u8], factor: &[u8], 
     requires { (2 ≤ n) × (n ≤ 4) × (1 ≤ columns) × (columns ≤ most_width) × (length row.old ≡ row_room) × (length factor.now ≡ n) × (columns * pairs n ≤ length mask.now) }
     ensures { Products (field_of f) n columns mask.now factor.now row.old row.new }
 {
-    let mut a = [0u8; 4];
-    reduced(f, &mut a[..n], factor);
-    if f == 16 {
-        product_16(n, columns, row, &a[..n], mask);
-    } else {
-        product_256(n, columns, row, &a[..n], mask);
+    match (f, n) {
+        (16, 2) => passes::<4, 2, 16, 48, 128, WORK_ROOM_2>(columns, row, factor, mask),
+        (16, 3) => passes::<4, 3, 48, 48, 256, WORK_ROOM_3>(columns, row, factor, mask),
+        (16, _) => passes::<4, 4, 16, 16, 128, WORK_ROOM_4>(columns, row, factor, mask),
+        (_, 2) => passes::<8, 2, 16, 48, 256, WORK_ROOM_2>(columns, row, factor, mask),
+        (_, 3) => passes::<8, 3, 48, 48, 512, WORK_ROOM_3>(columns, row, factor, mask),
+        _ => passes::<8, 4, 16, 16, 256, WORK_ROOM_4>(columns, row, factor, mask),
     }
 }

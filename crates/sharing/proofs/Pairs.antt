@@ -1,6 +1,6 @@
 -- Lists by their places, and loops over the pairs of n places: how many pairs there are, and what holds of a loop if it holds of each turn.
 -- Assumes nothing.
-use mathlib.Core.Path.{◌≡◌, refl, ap, ◌∙◌}
+use mathlib.Core.Path.{◌≡◌, refl, ap, ap₂, ◌∙◌}
 use mathlib.Core.Logic.{⊎_elim}
 use Prim.Native.Nat.{ℕ, zero, suc, ◌+◌, ◌-◌, ◌*◌, ◌/◌, ◌<◌, ◌≤◌}
 use mathlib.Core.List.{List, [], ◌∷◌}
@@ -8,7 +8,7 @@ use native.Mathlib.Omega.{arith}
 use native.Mathlib.Nat.{suc-mul, mul-suc, mul-le-mul, eq-or-lt_of_le, not-suc-le-zero, le_of_suc-le-suc}
 use lib.ListN.{length, get_or}
 use Rattle.sharing.specs.Run.{run, tab, before, pairs, pair_turn, pairs_of, over_pairs}
-use Rattle.sharing.proofs.Loops.{run_length, run_ext}
+use Rattle.sharing.proofs.Loops.{run_length, run_ext, run-next}
 
 -- ---- a list by its places
 
@@ -67,7 +67,20 @@ pairs_count n = omega (arith, pairs-double n)
 pub pairs_small : (n : ℕ) → n ≤ 4 → pairs n ≤ 6
 pairs_small n h = omega (arith, pairs-double n, mul-le-mul {n₁ = n} {m₁ = n - 1} {n₂ = 4} {m₂ = 3} h (omega arith))
 
+-- the number of the pair (i, j), as a loop that counts beside its two places has it
+pub pair_number : (n i j k : ℕ) → k + (i + 1) ≡ before n i + j → i < j → j < n → k < pairs n
+pair_number n i j k e l h = omega (arith, pair_lt n i (j - suc i) (omega arith) (omega arith))
+
 -- ---- loops
+
+-- a turn of such a loop
+pub pair-next : {S : Type 0} (turn : ℕ → ℕ → ℕ → S → S) (n i j k : ℕ) (s₀ s t : S) → i < j → k + (i + 1) ≡ before n i + j
+    → s ≡ run (pair_turn turn n i) (j - (i + 1)) s₀ → t ≡ turn k i j s → t ≡ run (pair_turn turn n i) (j + 1 - (i + 1)) s₀
+pair-next turn n i j k s₀ s t l e p q =
+    let a : j + 1 - (i + 1) ≡ j - (i + 1) + 1 = omega arith in
+    let b : k ≡ before n i + (j - (i + 1)) = omega arith in
+    let d : j ≡ i + 1 + (j - (i + 1)) = omega arith in
+    rw a (run-next (pair_turn turn n i) (j - (i + 1)) s₀ s t p (q ∙ ap₂ (λ (x y : ℕ). turn x i y s) b d))
 
 -- what each turn carries on holds in the end
 pub run_holds : {S : Type 0} (P : ℕ → S → Type 0) (turn : ℕ → S → S) (n : ℕ) → ((k : ℕ) → k < n → (s : S) → P k s → P (suc k) (turn k s))

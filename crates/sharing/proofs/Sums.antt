@@ -3,7 +3,7 @@
 -- Assumes nothing.
 use mathlib.Core.Path.{◌≡◌, refl, sym, ap, ap₂, ◌∙◌, subst}
 use Prim.Native.Nat.{ℕ, zero, suc, ◌+◌, ◌-◌, ◌%◌, ◌<◌}
-use mathlib.Core.List.{List, [], ◌∷◌}
+use mathlib.Core.List.{List, [], ◌∷◌, ◌++◌}
 use native.Mathlib.Omega.{arith}
 use native.Mathlib.Nat.{not-suc-le-zero, le_of_suc-le-suc}
 use lib.ListN.{length, get_or, length-set}
@@ -18,6 +18,26 @@ use Rattle.sharing.proofs.Pairs.{tab-length, tab_ext, tab_list, run_holds}
 record Adds (F : Ops) (n v : ℕ) (s : List ℕ) : Type 0 where
   size : length s ≡ n
   value : sum F s ≡ v
+
+-- what is still to be summed, from its end on, and v
+unfoldable pub onto : Ops → ℕ → List ℕ → ℕ
+onto F v [] = v
+onto F v (x ∷ s) = F.add x (onto F v s)
+
+pub onto-sum : (F : Ops) (s : List ℕ) → onto F 0 s ≡ sum F s
+unfolding onto sum
+onto-sum F [] = refl
+onto-sum F (x ∷ s) = ap (F.add x) (onto-sum F s)
+
+pub onto-none : (F : Ops) (v : ℕ) (s : List ℕ) → length s ≡ 0 → onto F v s ≡ v
+unfolding onto
+onto-none F v [] e = refl
+onto-none F v (x ∷ s) e = absurd (omega (arith, e))
+
+pub onto-last : (F : Ops) (v x : ℕ) (s : List ℕ) → onto F v (s ++ (x ∷ [])) ≡ onto F (F.add x v) s
+unfolding onto
+onto-last F v x [] = refl
+onto-last F v x (y ∷ s) = ap (F.add y) (onto-last F v x s)
 
 module _ (F : Ops) (R : Ring F) where
   pub sum_lt : (s : List ℕ) → sum F s < F.q

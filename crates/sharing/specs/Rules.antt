@@ -3,7 +3,7 @@
 -- F is the field, and ds the part of the mask tape that begins at the rule's own first draw. Where 01 adds a draw to a second share, the
 -- draw is taken from it here: in F16 and F256 that is the same.
 -- Assumes nothing.
-use Rattle.std.specs.Prelude.{ℕ, ◌+◌, ◌-◌, ◌*◌, List, [], ◌∷◌, ◌++◌, map, length, get_or, set, drop}
+use Rattle.std.specs.Prelude.{ℕ, ◌+◌, ◌-◌, ◌*◌, ◌≤◌, List, [], ◌∷◌, ◌++◌, map, length, get_or, set, drop}
 use Rattle.field.specs.Field.{Ops, sub, draw, inv}
 use Rattle.sharing.specs.Run.{run, tab, pairs, over_pairs}
 
@@ -80,3 +80,7 @@ four_of fs = tab 4 (λ k. get_or fs k 0)
 -- the draws of an Inversion from the mask tape
 unfoldable pub inversion_draws : ℕ → ℕ
 inversion_draws n = (n - 1) * (n - 1) + pairs n
+
+-- an Inversion of s may be asked: it has 2 to 4 shares, and each tape reaches as far as it takes
+abbrev pub InversionFits : List ℕ → List ℕ → List ℕ → Type 0
+InversionFits s nz ds = (2 ≤ length s) × (length s ≤ 4) × (length s - 1 ≤ length nz) × (inversion_draws (length s) ≤ length ds)

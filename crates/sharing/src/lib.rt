@@ -3,10 +3,10 @@
 // draw and is at least as long as the rule needs.
 #![tactic(auto)]
 
-ghost use Rattle.std.specs.Prelude.{◌≡◌, [], ◌∷◌, ◌++◌, ◌+◌, ◌-◌, ◌*◌, ◌<◌, ◌≤◌, length, replicate};
+ghost use Rattle.std.specs.Prelude.{◌≡◌, ℕ, List, [], ◌∷◌, ◌++◌, ◌+◌, ◌-◌, ◌*◌, ◌<◌, ◌≤◌, length, replicate};
 ghost use Rattle.field.specs.Field.{F16, field_of};
-ghost use Rattle.sharing.specs.Run.{tab, before, pairs, pairs_of};
-ghost use Rattle.sharing.specs.Rules.{sum, draw_at, add_at, sub_at, refresh_turn, refresh, pair_refresh_turn, pair_refresh, opening, scaled, blind_turn, blinded, blinded_value, factors, four_of, inversion_draws};
+ghost use Rattle.sharing.specs.Run.{tab, pairs, over_pairs};
+ghost use Rattle.sharing.specs.Rules.{sum, draw_at, add_at, sub_at, refresh, InversionFits, pair_refresh_turn, pair_refresh, opening, scaled, blinded, blinded_value, factors, four_of, inversion_draws};
 
 // The limits of 01, as in specs/Bounds.
 pub const MOST_ROWS: u64 = 96;
@@ -14,6 +14,7 @@ pub const MOST_ROWS: u64 = 96;
 pub const MOST_WIDTH: usize = 97;
 
 // The answer of an inversion: n factors whose product is the inverse; places not in use are 0.
+// stays: what may not change (the paper's form of Factors).
 #[derive(Clone, Copy)]
 pub struct Factors {
     pub f: [u8; 4],
@@ -32,17 +33,17 @@ pub fn copy_into(dst: &mut [u8], src: &[u8])
     requires { length dst.old ≡ length src.now }
     ensures { dst.new ≡ src.now }
 {
-    for d in 0..src.len() {
-        dst[d] = src[d];
+    // stays: the new form misses a bar of speed (copy_from_slice calls memmove for a zero flag's 2 to 4 bytes: 243 instructions for 218).
+    for (k, x) in src.iter().enumerate() {
+        dst[k] = *x;
     }
 }
 
+// stays: the new form is no plainer (what fill promises is, at bytes, one implication away from these zeros).
 pub fn wipe(x: &mut [u8])
     ensures { x.new ≡ replicate (length x.old) 0 }
 {
-    for i in 0..x.len() {
-        x[i] = 0;
-    }
+    x.fill(0);
 }
 
 // The value of a sharing.
@@ -50,10 +51,8 @@ pub fn sum(f: u64, s: &[u8]) -> u8
     ensures { result ≡ sum (field_of f) s.now }
 {
     let mut v: u8 = 0;
-    let mut i = s.len();
-    while 0 < i {
-        i -= 1;
-        v = field::add(f, s[i], v);
+    for x in s.iter().rev() {
+        v = field::add(f, *x, v);
     }
     v
 }
@@ -65,48 +64,66 @@ pub fn add_at(f: u64, s: &mut [u8], i: usize, v: u8)
     s[i] = field::add(f, s[i], v);
 }
 
-fn sub_at(f: u64, s: &mut [u8], i: usize, v: u8)
-    requires { i < length s.old }
-    ensures { s.new ≡ sub_at (field_of f) i v s.old }
+// d is added to share i and taken from share j.
+fn join(f: u64, s: &mut [u8], d: u8, i: usize, j: usize)
+    requires { (i < length s.old) × (j < length s.old) }
+    ensures { s.new ≡ sub_at (field_of f) j d (add_at (field_of f) i d s.old) }
 {
-    s[i] = field::sub(f, s[i], v);
-}
-
-fn refresh_turn(f: u64, s: &mut [u8], ds: &[u8], k: usize)
-    requires { (k + 1 < length s.old) × (k < length ds.now) }
-    ensures { s.new ≡ refresh_turn (field_of f) ds.now k s.old }
-{
-    let r = field::draw(f, ds[k]);
-    add_at(f, s, k + 1, r);
-    sub_at(f, s, 0, r);
+    s[i] = field::add(f, s[i], d);
+    s[j] = field::sub(f, s[j], d);
 }
 
 pub fn refresh(f: u64, s: &mut [u8], ds: &[u8])
     requires { (0 < length s.old) × (length s.old - 1 ≤ length ds.now) }
     ensures { s.new ≡ refresh (field_of f) ds.now s.old }
 {
-    for k in 0..s.len() - 1 {
-        refresh_turn(f, s, ds, k);
+    let draws = s.len() - 1;
+    for (k, d) in ds[..draws].iter().enumerate() {
+        join(f, s, field::draw(f, *d), k + 1, 0);
     }
 }
 
-fn pair_refresh_turn(f: u64, s: &mut [u8], ds: &[u8], k: usize, i: usize, j: usize)
-    requires { (i < length s.old) × (j < length s.old) × (k < length ds.now) }
-    ensures { s.new ≡ pair_refresh_turn (field_of f) ds.now k i j s.old }
-{
-    let d = field::draw(f, ds[k]);
-    add_at(f, s, i, d);
-    sub_at(f, s, j, d);
+// What is done at each pair i < j of n places, in the order 12, 13, .., 23, ..: k is the pair's number from 0.
+pub trait PairRule {
+    // What a turn asks of the pair and of the length of the slice that it writes to.
+    ghost Reaches: { Self → ℕ → ℕ → ℕ → ℕ → Type 0 };
+
+    ghost turn: { Self → ℕ → ℕ → ℕ → List ℕ → List ℕ };
+
+    fn turn(&self, out: &mut [u8], k: usize, i: usize, j: usize)
+        requires { Reaches self.now k i j (length out.old) }
+        ensures { out.new ≡ turn self.now k i j out.old };
 }
 
-// The pairs of i; the first of them is pair number at.
-fn pair_refresh_of(f: u64, s: &mut [u8], ds: &[u8], i: usize, at: usize)
-    requires { (length s.old ≤ 4) × (i < length s.old) × (at ≡ before (length s.old) i) × (pairs (length s.old) ≤ length ds.now) }
-    ensures { s.new ≡ pairs_of (pair_refresh_turn (field_of f) ds.now) (length s.old) i s.old }
+// The rule at each pair in turn.
+pub fn over_pairs<R: PairRule>(rule: &R, n: usize, out: &mut [u8])
+    requires few { n ≤ 4 }
+    requires reaches { (k i j : ℕ) → k < pairs n → i < j → j < n → R.Reaches rule.now k i j (length out.old) }
+    ensures { out.new ≡ over_pairs (R.turn rule.now) n out.old }
 {
-    let n = s.len() - 1 - i;
-    for u in 0..n {
-        pair_refresh_turn(f, s, ds, at + u, i, i + 1 + u);
+    // stays: the new form is no plainer (a pair's number, worked out of i and j, is a formula with n, and a count is not).
+    let mut k: usize = 0;
+    for i in 0..n {
+        for j in i + 1..n {
+            rule.turn(out, k, i, j);
+            k += 1;
+        }
+    }
+}
+
+#[derive(Clone, Copy)]
+struct PairRefresh<'a> {
+    f: u64,
+    ds: &'a [u8],
+}
+
+impl<'a> PairRule for PairRefresh<'a> {
+    ghost Reaches = { λ r k i j len. (i < len) × (j < len) × (k < length r.ds.now) };
+
+    ghost turn = { λ r k i j s. pair_refresh_turn (field_of r.f) r.ds.now k i j s };
+
+    fn turn(&self, out: &mut [u8], k: usize, i: usize, j: usize) {
+        join(self.f, out, field::draw(self.f, self.ds[k]), i, j);
     }
 }
 
@@ -116,11 +133,7 @@ pub fn pair_refresh(f: u64, s: &mut [u8], ds: &[u8])
     ensures { s.new ≡ pair_refresh (field_of f) ds.now s.old }
 {
     let n = s.len();
-    let mut at: usize = 0;
-    for i in 0..n {
-        pair_refresh_of(f, s, ds, i, at);
-        at += n - 1 - i;
-    }
+    over_pairs(&PairRefresh { f, ds }, n, s);
 }
 
 // s is a copy, which is spent: it is left as its pair refresh, which is what is summed.
@@ -136,8 +149,8 @@ pub fn opening(f: u64, s: &mut [u8], ds: &[u8]) -> u8
 pub fn scale(f: u64, s: &mut [u8], z: u8)
     ensures { s.new ≡ scaled (field_of f) z s.old }
 {
-    for i in 0..s.len() {
-        s[i] = field::mul(f, z, s[i]);
+    for x in s.iter_mut() {
+        *x = field::mul(f, z, *x);
     }
 }
 
@@ -146,9 +159,8 @@ fn look_up16(s: &mut [u8], z: u8)
     ensures { s.new ≡ scaled F16 z s.old }
 {
     let row = field::row16(z);
-    for i in 0..s.len() {
-        let j = (s[i] % 16) as usize;
-        s[i] = row[j];
+    for x in s.iter_mut() {
+        *x = row[usize::from(*x % 16)];
     }
 }
 
@@ -171,29 +183,22 @@ pub fn inversion_draws(n: usize) -> usize
     (n - 1) * (n - 1) + pair_count(n)
 }
 
-// Turn k of the blinding: times draw k of the nonzero tape, refreshed.
-fn blind_turn(f: u64, s: &mut [u8], nz: &[u8], ds: &[u8], k: usize)
-    requires { (0 < length s.old) × (k < length nz.now) × (k * (length s.old - 1) + (length s.old - 1) ≤ length ds.now) }
-    ensures { s.new ≡ blind_turn (field_of f) nz.now ds.now k s.old }
-{
-    let z = field::draw(f, nz[k]);
-    let at = k * (s.len() - 1);
-    scale(f, s, z);
-    refresh(f, s, &ds[at..]);
-}
-
+// Times each draw of the nonzero tape in turn, refreshed each time.
 fn blind(f: u64, s: &mut [u8], nz: &[u8], ds: &[u8])
-    requires { (2 ≤ length s.old) × (length s.old ≤ 4) × (length s.old - 1 ≤ length nz.now) × (inversion_draws (length s.old) ≤ length ds.now) }
+    requires { InversionFits s.old nz.now ds.now }
     ensures { s.new ≡ blinded (field_of f) nz.now ds.now s.old }
 {
-    for k in 0..s.len() - 1 {
-        blind_turn(f, s, nz, ds, k);
+    let turns = s.len() - 1;
+    for (k, z) in nz[..turns].iter().enumerate() {
+        let at = k * turns;
+        scale(f, s, field::draw(f, *z));
+        refresh(f, s, &ds[at..]);
     }
 }
 
 // u, the value of s times all the nonzero draws.
 pub fn blinded_value(f: u64, s: &[u8], nz: &[u8], ds: &[u8]) -> u8
-    requires { (2 ≤ length s.now) × (length s.now ≤ 4) × (length s.now - 1 ≤ length nz.now) × (inversion_draws (length s.now) ≤ length ds.now) }
+    requires { InversionFits s.now nz.now ds.now }
     ensures { result ≡ blinded_value (field_of f) nz.now ds.now s.now }
 {
     let n = s.len();
@@ -210,8 +215,8 @@ fn factor_list(f: u64, n: usize, nz: &[u8], last: u8) -> [u8; 4]
     ensures { result ≡ four_of (tab (n - 1) (draw_at (field_of f) nz.now) ++ (last ∷ [])) }
 {
     let mut list = [0u8; 4];
-    for k in 0..n - 1 {
-        list[k] = field::draw(f, nz[k]);
+    for (k, z) in nz[..n - 1].iter().enumerate() {
+        list[k] = field::draw(f, *z);
     }
     list[n - 1] = last;
     list
@@ -220,7 +225,7 @@ fn factor_list(f: u64, n: usize, nz: &[u8], last: u8) -> [u8; 4]
 // The factors whose product is the inverse of the value of s. Where that value is 0 and no nonzero draw is, the last factor is 0; it is not 0
 // otherwise.
 pub fn inversion(f: u64, s: &[u8], nz: &[u8], ds: &[u8]) -> Factors
-    requires { (2 ≤ length s.now) × (length s.now ≤ 4) × (length s.now - 1 ≤ length nz.now) × (inversion_draws (length s.now) ≤ length ds.now) }
+    requires { InversionFits s.now nz.now ds.now }
     ensures { (result.n ≡ length s.now) × (result.f ≡ four_of (factors (field_of f) nz.now ds.now s.now)) }
 {
     let n = s.len();

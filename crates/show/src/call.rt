@@ -1,5 +1,6 @@
 // The lines in which the programs refusals_* print a call, with its answer and what was lent before and after, and the small systems that
 // they lend.
+use super::Buffer;
 use course::Order;
 use std::io;
 
@@ -14,7 +15,7 @@ pub const ZERO_PIVOT: [u8; 4] = [2, 2, 15, 12];
 // What two places to be written hold before a call.
 pub const BLANK: [u8; 2] = [238, 238];
 
-pub const LARGEST: u64 = 18446744073709551615;
+pub const LARGEST: u64 = u64::MAX;
 
 pub fn order(field: u64, shares: u64, size: u64) -> Order {
     Order {
@@ -26,20 +27,14 @@ pub fn order(field: u64, shares: u64, size: u64) -> Order {
 
 // Copies as much as both hold: a call is lent a copy, so that it can be held against what was there.
 pub fn copy(from: &[u8], to: &mut [u8]) {
-    for i in 0..from.len() {
-        if to.len() <= i {
-            return;
-        }
-        to[i] = from[i];
+    for (x, y) in from.iter().zip(to) {
+        *y = *x;
     }
 }
 
 // The call in words, and the start of the line of what is lent.
 pub fn begin(out: &impl Print, call: &str, words: &str) -> io::Result<()> {
-    super::text(out, call)?;
-    super::text(out, ": ")?;
-    super::text(out, words)?;
-    super::text(out, "\n  lent: ")
+    print!(out; "{call}: {words}\n  lent: ")
 }
 
 // What solve and step are lent, besides the order or the record.
@@ -50,34 +45,29 @@ pub fn lent(
     mask: &[u8],
     nonzero: &[u8],
 ) -> io::Result<()> {
-    super::buffer(out, "table ", table)?;
-    super::buffer(out, "solution ", solution)?;
-    super::buffer(out, "mask ", mask)?;
-    super::buffer(out, "nonzero ", nonzero)
+    print!(out; "table {}solution {}", Buffer(table), Buffer(solution))?;
+    print!(out; "mask {}nonzero {}", Buffer(mask), Buffer(nonzero))
 }
 
 // The end of that line, where it ends with the order.
 pub fn of_order(out: &impl Print, o: Order) -> io::Result<()> {
-    super::order(out, o.field, o.shares, o.size)?;
+    print!(out; "{o}")?;
     middle(out)
 }
 
 pub fn middle(out: &impl Print) -> io::Result<()> {
-    super::text(out, "\n  answer: ")
+    print!(out; "\n  answer: ")
 }
 
 pub fn after(out: &impl Print) -> io::Result<()> {
-    super::text(out, "\n  after: ")
+    print!(out; "\n  after: ")
 }
 
 pub fn end(out: &impl Print, same: bool) -> io::Result<()> {
-    if same {
-        super::text(out, "unchanged\n")
-    } else {
-        super::text(out, "changed\n")
-    }
+    let words = if same { "unchanged" } else { "changed" };
+    print!(out; "{words}\n")
 }
 
 pub fn too_long(out: &impl Print) -> io::Result<()> {
-    super::text(out, "too long for this program\n")
+    print!(out; "too long for this program\n")
 }

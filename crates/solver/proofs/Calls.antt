@@ -1,6 +1,6 @@
--- The work of Solve and of Step, in the words of their calls.
+-- The work of Step, in the words of its call.
 -- Assumes nothing.
-use mathlib.Core.Path.{◌≡◌, refl, ap, ◌∙◌}
+use mathlib.Core.Path.{◌≡◌, refl}
 use mathlib.Core.List.{List}
 use Prim.Native.Nat.{ℕ}
 use Rattle.course.specs.declared.Step.{Step}
@@ -9,15 +9,12 @@ use Rattle.course.specs.declared.Place.TheVariants.{At, Stopped, Done}
 use Rattle.course.specs.declared.Progress.{Progress}
 use Rattle.course.specs.StepList.{revealed_by}
 use Rattle.course.specs.Next.{order_of, moved_on}
-use Rattle.walk.specs.declared.Ending.{Ending}
-use Rattle.walk.specs.Act.{Held, held, opened, acted}
-use Rattle.walk.specs.Walk.{Solution, leaves}
+use Rattle.walk.specs.Act.{Held, opened, acted}
+use Rattle.walk.specs.Walk.{leaves}
 use Rattle.verdict.specs.Calls.{Says, gives, after}
-use Rattle.solver.specs.Calls.{solve_does, Stride, moved, tells, lent, step_does}
-
--- the ending of a solve, and what it leaves
-pub solve_done : (a : Says Ending) (e : Ending) (t x : List ℕ) (s : Solution) → a ≡ gives e → leaves e t x ≡ s → after a (held t x) ≡ solve_does s
-solve_done a e t x s g h = ap (λ (u : Says Ending). after u (held t x)) g ∙ ap solve_does h
+use Rattle.solver.specs.declared.Stride.{Stride}
+use Rattle.solver.specs.declared.Stride.TheVariants.{Moved}
+use Rattle.solver.specs.Calls.{tells, lent, step_does}
 
 -- the step of a place: what it opens, leaves and tells, and the next place
 module _ (p : Progress) (place : Place) (h : Held) (mask nonzero : List ℕ) where
@@ -28,7 +25,7 @@ module _ (p : Progress) (place : Place) (h : Held) (mask nonzero : List ℕ) whe
 
 -- a place that is no step changes nothing
 pub step_stays : (p : Progress) (place : Place) (h : Held) (mask nonzero : List ℕ) → ((s : Step) → place ≡ At s → ⊥)
-    → after (gives moved) (lent p h) ≡ step_does p place h mask nonzero
+    → after (gives Moved) (lent p h) ≡ step_does p place h mask nonzero
 unfolding step_does
 step_stays p (At s) h mask nonzero ended = absurd (ended s refl)
 step_stays p (Stopped j) h mask nonzero ended = refl

@@ -2,7 +2,7 @@
 -- Assumes nothing.
 use mathlib.Core.Bool.{Bool, true, false, not, ◌||◌, false≢true}
 use mathlib.Core.List.{List}
-use mathlib.Core.Logic.{◌⊎◌, inl, inr, ⊎_elim}
+use mathlib.Core.Logic.{◌⊎◌, inl, inr}
 use mathlib.Core.Path.{◌≡◌, refl, sym, ◌∙◌}
 use Prim.Native.Nat.{ℕ, ◌+◌, ◌-◌, ◌*◌, ◌≤◌}
 use native.Mathlib.Decide.{ℕ_discrete}
@@ -25,7 +25,7 @@ use Rattle.course.specs.declared.Place.{Place}
 use Rattle.course.specs.declared.Place.TheVariants.{At, Stopped, Done}
 use Rattle.course.specs.declared.Order.{Order}
 use Rattle.course.specs.declared.Progress.{Progress}
-use Rattle.course.specs.StepList.{Sizes, in_list, cost_of, cost_in, mask_cost, nonzero_cost, Pivot, revealed_by, full_mask, full_nonzero}
+use Rattle.course.specs.StepList.{Sizes, in_list, cost_of, cost_in, mask_cost, nonzero_cost, Pivot, full_mask, full_nonzero}
 use Rattle.course.specs.Next.{order_of, counted}
 use Rattle.course.specs.Code.Closed.{part_of, Stands, agrees}
 use Rattle.course.proofs.Within.{within}
@@ -241,19 +241,7 @@ both_zero a b there back = elim (ℕ_discrete a 0) [
   | no n ↦ ne_eqb a 0 n ∙ sym (ne_eqb b 0 (λ e. n (back e)))
 ]
 
--- a place that is no Scale has no pivot
-pub no_pivot : (o : Order) (place : Place) (t : List ℕ) → ((j : ℕ) → place ≡ At (Scale j) → ⊥) → passed ≡ no12 o place t
-unfolding no12 revealed_by zero_pivot
-no_pivot o (At (Mix j k)) t n = refl
-no_pivot o (At (Check j)) t n = refl
-no_pivot o (At (Scale j)) t n = absurd (n j refl)
-no_pivot o (At (Clear j k)) t n = refl
-no_pivot o (At (Open j)) t n = refl
-no_pivot o (At (Lift j)) t n = refl
-no_pivot o (Stopped j) t n = refl
-no_pivot o Done t n = refl
-
--- and one that is no Lift reads no byte of the solution
+-- a place that is no Lift reads no byte of the solution
 pub lift-or_not : (o : Order) (place : Place) (x : List ℕ) → ((j : ℕ) × (place ≡ At (Lift j))) ⊎ (no20 o place x ≡ passed)
 unfolding no20 lift_refused
 lift-or_not o (At (Mix j k)) x = inr refl
@@ -264,9 +252,6 @@ lift-or_not o (At (Open j)) x = inr refl
 lift-or_not o (At (Lift j)) x = inl (j, refl)
 lift-or_not o (Stopped j) x = inr refl
 lift-or_not o Done x = inr refl
-
-pub no_lift : (o : Order) (place : Place) (x : List ℕ) → ((j : ℕ) → place ≡ At (Lift j) → ⊥) → passed ≡ no20 o place x
-no_lift o place x n = ⊎_elim (λ (l : (j : ℕ) × (place ≡ At (Lift j))). absurd (n l.0 l.1)) sym (lift-or_not o place x)
 
 -- the pivot's place of a Scale
 pub pivot_cell : (o : Order) (j : ℕ) → in_list o.size (Scale j) ≡ true → Inside o.size (o.size + 1) j j

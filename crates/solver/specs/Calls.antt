@@ -1,6 +1,6 @@
 -- The public calls: what each answers, in 01's words, and every lent byte afterwards, for every input.
 -- Assumes nothing.
-use Rattle.std.specs.Prelude.{List, ℕ, eqb, length}
+use Rattle.std.specs.Prelude.{List, ℕ, Result, Ok, Err, eqb, length}
 use Rattle.field.specs.Field.{pick}
 use Rattle.course.specs.declared.Place.{Place}
 use Rattle.course.specs.declared.Place.TheVariants as P
@@ -8,26 +8,17 @@ use Rattle.course.specs.declared.Order.{Order}
 use Rattle.course.specs.declared.Progress.{Progress}
 use Rattle.course.specs.declared.Counts.{Counts}
 use Rattle.course.specs.declared.Draws.{Draws}
-use Rattle.course.specs.StepList.{draws, Revealed, None, Flag, Pivot, Unknown, revealed_by, step_list, sums}
+use Rattle.course.specs.StepList.{Revealed, None, Flag, Pivot, Unknown, revealed_by, step_list, sums}
 use Rattle.course.specs.Next.{order_of, moved_on, start_of}
 use Rattle.walk.specs.declared.Ending.{Ending}
-use Rattle.walk.specs.declared.Ending.TheVariants as E
 use Rattle.walk.specs.Act.{Held, opened, acted}
 use Rattle.walk.specs.Walk.{Solution, solved, Counters}
 use Rattle.walk.specs.Dealing.{dealt, gathered}
 use Rattle.meaning.specs.Meaning.{Means}
-use Rattle.solver.specs.declared.Starting.{Starting}
-use Rattle.solver.specs.declared.Starting.TheVariants as Start
-use Rattle.solver.specs.declared.Counting.{Counting}
-use Rattle.solver.specs.declared.Counting.TheVariants as Count
-use Rattle.solver.specs.declared.Filling.{Filling}
-use Rattle.solver.specs.declared.Filling.TheVariants as Fill
-use Rattle.solver.specs.declared.Stepping.{Stepping}
-use Rattle.solver.specs.declared.Stepping.TheVariants as Stepped
-use Rattle.solver.specs.declared.Solving.{Solving}
-use Rattle.solver.specs.declared.Solving.TheVariants as Solve
-use Rattle.solver.specs.declared.Wanting.{Wanting}
-use Rattle.solver.specs.declared.Wanting.TheVariants as Want
+use Rattle.solver.specs.declared.Stride.{Stride}
+use Rattle.solver.specs.declared.Stride.TheVariants.{Moved, Opened, Stopped, Done}
+use Rattle.solver.specs.declared.Stepped.{Stepped}
+use Rattle.verdict.specs.declared.Refusal.{Refusal}
 use Rattle.verdict.specs.Refusals.{paper}
 use Rattle.verdict.specs.Calls.{Says, refuses, gives, Outcome, after, call, Nothing}
 use Rattle.solver.specs.Refusals.{sizes, deal_order, gather_order, solve_order, step_order, wanted_order, entries, cost_at}
@@ -37,47 +28,27 @@ order field shares size = record { field = field; shares = shares; size = size }
 
 -- ---- Start: a fresh record or refusal 1, 2, 3
 
-abbrev pub start_says : Starting → Says Progress
-start_says (Start.Fresh p) = gives p
-start_says (Start.Refused r) = refuses (paper r)
-
 unfoldable pub start_call : Order → Outcome Progress Nothing
 start_call o = call (sizes o) tt (after (gives (start_of o)) tt)
 
 -- ---- the counts of an order: steps, mask draws and nonzero draws of a full solve
 
-abbrev pub count_says : Counting → Says Counts
-count_says (Count.Counted c) = gives c
-count_says (Count.Refused r) = refuses (paper r)
-
 unfoldable pub counts_call : Order → Outcome Counts Nothing
 counts_call o = call (sizes o) tt (after (gives (sums o (step_list o.size))) tt)
 
--- ---- Deal and Gather: both answer filled
+-- ---- Deal and Gather: both answer that what was lent is filled
 
-pub data Full : Type 0 where
-  filled : Full
-
-abbrev pub fill_says : Filling → Says Full
-fill_says Fill.Filled = gives filled
-fill_says (Fill.Refused r) = refuses (paper r)
-
-unfoldable pub deal_call : Order → List ℕ → List ℕ → List ℕ → Outcome Full (List ℕ)
+unfoldable pub deal_call : Order → List ℕ → List ℕ → List ℕ → Outcome Nothing (List ℕ)
 deal_call o values mask table =
     call (deal_order o values (length table) (length mask)) table
-    (after (gives filled) (dealt o.field o.shares (entries o.size) values mask table))
+    (after (gives tt) (dealt o.field o.shares (entries o.size) values mask table))
 
-unfoldable pub gather_call : Order → List ℕ → List ℕ → Outcome Full (List ℕ)
+unfoldable pub gather_call : Order → List ℕ → List ℕ → Outcome Nothing (List ℕ)
 gather_call o table values =
     call (gather_order o table (length values)) values
-    (after (gives filled) (gathered o.field o.shares (entries o.size) table))
+    (after (gives tt) (gathered o.field o.shares (entries o.size) table))
 
 -- ---- Solve: solved or stopped(j), with the steps, mask draws and nonzero draws taken
-
-abbrev pub solve_says : Solving → Says Ending
-solve_says (Solve.Solved c) = gives (E.Solved c)
-solve_says (Solve.Stopped j c) = gives (E.Stopped j c)
-solve_says (Solve.Refused r) = refuses (paper r)
 
 abbrev pub solve_does : Solution → Outcome Ending Held
 solve_does s = after (gives s.answer) s.left
@@ -98,25 +69,21 @@ Taken o (gives e) = Counters o e
 
 -- ---- Step: moved, opened (with j and x_j), stopped (with j) or done (the last Open, j = 1, answers done with x_1)
 
-pub data Stride : Type 0 where
-  moved : Stride
-  found : ℕ → ℕ → Stride
-  stopped : ℕ → Stride
-  done : ℕ → Stride
+abbrev pub step_says : Result Stepped Refusal → Says Stride
+step_says (Ok s) = gives s.told
+step_says (Err r) = refuses (paper r)
 
-abbrev pub step_says : Stepping → Says Stride
-step_says Stepped.Moved = gives moved
-step_says (Stepped.Opened j x) = gives (found j x)
-step_says (Stepped.Stopped j) = gives (stopped j)
-step_says (Stepped.Done x) = gives (done x)
-step_says (Stepped.Refused r) = refuses (paper r)
+-- the record that it leaves; on a refusal the record as it was
+abbrev pub left_by : Progress → Result Stepped Refusal → Progress
+left_by p (Ok s) = s.next
+left_by p (Err r) = p
 
 -- what a step tells that opened x
 unfoldable pub tells : Revealed → ℕ → Stride
-tells None x = moved
-tells (Flag j) x = pick (eqb x 1) (stopped j) moved
-tells (Pivot j) x = moved
-tells (Unknown j) x = pick (eqb j 1) (done x) (found j x)
+tells None x = Moved
+tells (Flag j) x = pick (eqb x 1) (Stopped j) Moved
+tells (Pivot j) x = Moved
+tells (Unknown j) x = pick (eqb j 1) (Done x) (Opened j x)
 
 -- the record, beside the table and the solution
 pub record Lent : Type 0 where
@@ -131,8 +98,8 @@ unfoldable pub step_does : Progress → Place → Held → List ℕ → List ℕ
 step_does p (P.At s) h mask nonzero =
     let x = opened (order_of p) s mask h in
     after (gives (tells (revealed_by s) x)) (lent (moved_on p s x) (acted (order_of p) s mask nonzero h))
-step_does p (P.Stopped j) h mask nonzero = after (gives moved) (lent p h)
-step_does p P.Done h mask nonzero = after (gives moved) (lent p h)
+step_does p (P.Stopped j) h mask nonzero = after (gives Moved) (lent p h)
+step_does p P.Done h mask nonzero = after (gives Moved) (lent p h)
 
 unfoldable pub step_call : Progress → Held → List ℕ → List ℕ → Outcome Stride Lent
 step_call p h mask nonzero =
@@ -140,10 +107,6 @@ step_call p h mask nonzero =
     (step_does p p.place h mask nonzero)
 
 -- ---- Wanted: the mask draws and the nonzero draws of the record's place, which Step asks for (7, 14, 8, 15); or refusal 1, 2, 3, 10, 19, 11
-
-abbrev pub want_says : Wanting → Says Draws
-want_says (Want.Wanted mask nonzero) = gives (draws mask nonzero)
-want_says (Want.Refused r) = refuses (paper r)
 
 unfoldable pub wanted_call : Progress → Outcome Draws Nothing
 wanted_call p =

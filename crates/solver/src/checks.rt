@@ -1,20 +1,20 @@
 // The checks of the public calls: the order of each, with refusals 10 to 12, 19 and 20, which are about a progress record. Nothing lent is written.
-ghost use Rattle.std.specs.Prelude.{◌≡◌, true, not, ◌&&◌, ◌≤◌, length};
+ghost use Rattle.std.specs.Prelude.{◌≡◌, true, ◌&&◌, ◌≤◌, length};
 ghost use Rattle.sharing.specs.Bounds.{most_rows, most_entries};
 ghost use Rattle.course.specs.StepList.{Sizes};
 ghost use Rattle.course.specs.Next.{order_of, counted};
 ghost use Rattle.verdict.specs.Told.{passed, ◌or◌};
 ghost use Rattle.verdict.specs.Refusals.{no7, no9, buffers};
 ghost use Rattle.solver.specs.Refusals.{placed, ended, entries, whole_table, table_rows, value_rows, deal_draws, cost_at, mask_at, nonzero_at, no20, no12, sizes, deal_order, gather_order, tapes, solve_order, standing, wanted_order, placing, lending, step_order};
-ghost use Rattle.solver.specs.Code.Fault.{fault_of};
 ghost use Rattle.verdict.specs.Code.Verdicts.{told};
 ghost use Rattle.verdict.specs.Cells.{NonEmpty};
 
 use course::{Draws, Order, Place, Progress, Step};
-use verdict::{Cell, Refusal, Rows, Verdict};
+use table::Shape;
+use verdict::{Cell, Refusal, Rows};
 
 // 1 to 3
-pub fn sizes(o: Order) -> Verdict
+pub fn sizes(o: Order) -> Result<(), Refusal>
     ensures { told result ≡ sizes o }
 {
     verdict::numbers(o.field, o.shares, o.size)
@@ -61,46 +61,30 @@ fn deal_draws(o: Order) -> usize
     entry_count(o.size) * (o.shares as usize - 1)
 }
 
-fn deal_lent(o: Order, values: &[u8], target: usize, mask: usize) -> Verdict
-    requires { Sizes o }
-    ensures { told result ≡ buffers o.field (value_rows o) (entries o.size) values.now (whole_table o) target or no7 (deal_draws o) mask }
+// 1 to 7
+pub fn deal(o: Order, values: &[u8], target: usize, mask: usize) -> Result<(), Refusal>
+    ensures { told result ≡ deal_order o values.now target mask }
 {
-    let draws = deal_draws(o);
-    let rows = value_rows(o);
-    let v = verdict::buffers(
+    sizes(o)?;
+    verdict::buffers(
         o.field,
-        rows,
+        value_rows(o),
         entry_count(o.size),
         values,
         whole_table(o),
         target,
-    );
-    verdict::or_else(v, verdict::no7(draws, mask))
-}
-
-// 1 to 7
-pub fn deal(o: Order, values: &[u8], target: usize, mask: usize) -> Verdict
-    ensures { told result ≡ deal_order o values.now target mask }
-{
-    let v = sizes(o);
-    let Verdict::Pass = v else {
-        return v;
-    };
-    deal_lent(o, values, target, mask)
+    )?;
+    verdict::no7(deal_draws(o), mask)
 }
 
 // 1 to 6
-pub fn gather(o: Order, table: &[u8], target: usize) -> Verdict
+pub fn gather(o: Order, table: &[u8], target: usize) -> Result<(), Refusal>
     ensures { told result ≡ gather_order o table.now target }
 {
-    let v = sizes(o);
-    let Verdict::Pass = v else {
-        return v;
-    };
-    let rows = table_rows(o);
+    sizes(o)?;
     verdict::buffers(
         o.field,
-        rows,
+        table_rows(o),
         whole_table(o),
         table,
         entry_count(o.size),
@@ -109,7 +93,7 @@ pub fn gather(o: Order, table: &[u8], target: usize) -> Verdict
 }
 
 // 7 to 9
-fn tapes(o: Order, mask: usize, nonzero: &[u8]) -> Verdict
+fn tapes(o: Order, mask: usize, nonzero: &[u8]) -> Result<(), Refusal>
     requires { Sizes o }
     ensures { told result ≡ tapes o mask nonzero.now }
 {
@@ -117,34 +101,26 @@ fn tapes(o: Order, mask: usize, nonzero: &[u8]) -> Verdict
     verdict::at_least(o.field, full.mask, full.nonzero, mask, nonzero)
 }
 
-fn solve_lent(o: Order, table: &[u8], solution: usize, mask: usize, nonzero: &[u8]) -> Verdict
-    requires { Sizes o }
-    ensures { told result ≡ buffers o.field (table_rows o) (whole_table o) table.now o.size solution or tapes o mask nonzero.now }
+// 1 to 9
+pub fn solve(
+    o: Order,
+    table: &[u8],
+    solution: usize,
+    mask: usize,
+    nonzero: &[u8],
+) -> Result<(), Refusal>
+    ensures { told result ≡ solve_order o table.now solution mask nonzero.now }
 {
-    let rows = table_rows(o);
-    let v = verdict::buffers(
+    sizes(o)?;
+    verdict::buffers(
         o.field,
-        rows,
+        table_rows(o),
         whole_table(o),
         table,
         o.size as usize,
         solution,
-    );
-    let Verdict::Pass = v else {
-        return v;
-    };
+    )?;
     tapes(o, mask, nonzero)
-}
-
-// 1 to 9
-pub fn solve(o: Order, table: &[u8], solution: usize, mask: usize, nonzero: &[u8]) -> Verdict
-    ensures { told result ≡ solve_order o table.now solution mask nonzero.now }
-{
-    let v = sizes(o);
-    let Verdict::Pass = v else {
-        return v;
-    };
-    solve_lent(o, table, solution, mask, nonzero)
 }
 
 fn is_placed(m: u64, p: Place) -> bool
@@ -160,63 +136,35 @@ fn is_placed(m: u64, p: Place) -> bool
 fn is_ended(p: Place) -> bool
     ensures { result ≡ ended p }
 {
-    match p {
-        Place::At(_) => false,
-        Place::Stopped(_) => true,
-        Place::Done => true,
-    }
+    matches!(p, Place::Stopped(_) | Place::Done)
 }
 
-// The first of 10, 19 and 11 that applies.
-fn fault(listed: bool, matched: bool) -> Refusal
-    ensures { result ≡ fault_of listed matched }
-{
-    if !listed {
-        return Refusal::OffList;
-    }
-    if matched {
-        Refusal::Ended
-    } else {
-        Refusal::Counters
-    }
-}
-
-// Whether none of 10, 19 and 11 applies.
-fn is_sound(matched: bool, p: Place) -> bool
-    ensures { result ≡ matched && not (ended p) }
-{
-    matched && !is_ended(p)
-}
-
-// 10, 19, 11, of a record that is at a place of the list, and whose counters match it, or not. All three are told by one test.
-fn standing(p: Progress, listed: bool, matched: bool) -> Verdict
+// 10, 19, 11, of a record that is at a place of the list, and whose counters match it, or not.
+fn standing(p: Progress, listed: bool, matched: bool) -> Result<(), Refusal>
     requires { (listed ≡ placed p.size p.place) × (matched ≡ listed && counted p) }
     ensures { told result ≡ standing p }
 {
-    let place = p.place;
-    verdict::refuse_if(!is_sound(matched, place), fault(listed, matched))
+    if !listed {
+        return Err(Refusal::OffList);
+    }
+    if !matched {
+        return Err(Refusal::Counters);
+    }
+    verdict::refuse_if(is_ended(p.place), Refusal::Ended)
 }
 
 // 1, 2, 3, 10, 19, 11
-pub fn wanted(p: Progress) -> Verdict
+pub fn wanted(p: Progress) -> Result<(), Refusal>
     ensures { told result ≡ wanted_order p }
 {
-    let o = Order {
-        field: p.field,
-        shares: p.shares,
-        size: p.size,
-    };
-    let v = sizes(o);
-    let Verdict::Pass = v else {
-        return v;
-    };
-    let place = p.place;
-    // here and in placing, and not in one function for both: so the record is not handed on through memory
-    let listed = is_placed(o.size, place);
+    let o = p.order();
+    sizes(o)?;
+    // stays: (b) here and in placing: tried in standing, for both, the record goes through memory, and each call costs some 100 instructions more
+    let listed = is_placed(p.size, p.place);
     let matched = listed
         && course::agrees(
             o,
-            course::part_of(o.size as usize, place),
+            course::part_of(p.size as usize, p.place),
             p.mask,
             p.nonzero,
         );
@@ -224,22 +172,17 @@ pub fn wanted(p: Progress) -> Verdict
 }
 
 // 4, 5, 10, 19, 11
-fn placing(p: Progress, table: usize, solution: usize) -> Verdict
+fn placing(p: Progress, table: usize, solution: usize) -> Result<(), Refusal>
     requires { Sizes (order_of p) }
     ensures { told result ≡ placing p table solution }
 {
-    let o = Order {
-        field: p.field,
-        shares: p.shares,
-        size: p.size,
-    };
-    let whole = whole_table(o);
-    let m = o.size as usize;
-    let v = verdict::or_else(verdict::no4(whole, table), verdict::no5(m, solution));
-    let place = p.place;
-    let listed = is_placed(o.size, place);
-    let matched = listed && course::agrees(o, course::part_of(m, place), p.mask, p.nonzero);
-    verdict::or_else(v, standing(p, listed, matched))
+    let o = p.order();
+    let m = p.size as usize;
+    verdict::no4(whole_table(o), table)?;
+    verdict::no5(m, solution)?;
+    let listed = is_placed(p.size, p.place);
+    let matched = listed && course::agrees(o, course::part_of(m, p.place), p.mask, p.nonzero);
+    standing(p, listed, matched)
 }
 
 // The draws of a place.
@@ -250,11 +193,7 @@ pub fn cost_at(o: Order, p: Place) -> Draws
 {
     match p {
         Place::At(s) => course::cost(o, s),
-        Place::Stopped(_) => Draws {
-            mask: 0,
-            nonzero: 0,
-        },
-        Place::Done => Draws {
+        Place::Stopped(_) | Place::Done => Draws {
             mask: 0,
             nonzero: 0,
         },
@@ -262,7 +201,7 @@ pub fn cost_at(o: Order, p: Place) -> Draws
 }
 
 // 7, 14, 8, 15, 9
-fn lending(o: Order, p: Place, mask: usize, nonzero: &[u8]) -> Verdict
+fn lending(o: Order, p: Place, mask: usize, nonzero: &[u8]) -> Result<(), Refusal>
     requires sizes { Sizes o }
     requires p_value { placed o.size p ≡ true }
     ensures { told result ≡ lending o p mask nonzero.now }
@@ -272,23 +211,20 @@ fn lending(o: Order, p: Place, mask: usize, nonzero: &[u8]) -> Verdict
 }
 
 // 20: whether the byte that a Lift reads is no element.
-fn no20(o: Order, p: Place, solution: &[u8]) -> Verdict
+fn no20(o: Order, p: Place, solution: &[u8]) -> Result<(), Refusal>
     requires p_value { placed o.size p ≡ true }
     requires solution_len { length solution.now ≡ o.size }
     ensures { told result ≡ no20 o p solution.now }
 {
-    let Place::At(s) = p else {
-        return Verdict::Pass;
-    };
-    let Step::Lift(j) = s else {
-        return Verdict::Pass;
+    let Place::At(Step::Lift(j)) = p else {
+        return Ok(());
     };
     let x = solution[j as usize - 1];
     verdict::refuse_if(verdict::is_too_large(o.field, x), Refusal::LiftByte(j))
 }
 
 // 12: whether the pivot of a Scale is 0, by opening it blinded, on copies: the shares are never summed bare.
-fn no12(o: Order, p: Place, table: &[u8], mask: &[u8], nonzero: &[u8]) -> Verdict
+fn no12(o: Order, p: Place, table: &[u8], mask: &[u8], nonzero: &[u8]) -> Result<(), Refusal>
     requires sizes { Sizes o }
     requires p_value { placed o.size p ≡ true }
     requires table_len { length table.now ≡ whole_table o }
@@ -296,16 +232,18 @@ fn no12(o: Order, p: Place, table: &[u8], mask: &[u8], nonzero: &[u8]) -> Verdic
     requires nonzero_value { no9 o.field nonzero.now ≡ passed }
     ensures { told result ≡ no12 o p table.now }
 {
-    let Place::At(s) = p else {
-        return Verdict::Pass;
+    let Place::At(Step::Scale(j)) = p else {
+        return Ok(());
     };
-    let Step::Scale(j) = s else {
-        return Verdict::Pass;
-    };
-    let n = o.shares as usize;
     let m = o.size as usize;
     let c = j as usize;
-    let zero = table::opens_zero(o.field, n, m, m + 1, table, c, c, nonzero, mask);
+    let shape = Shape {
+        field: o.field,
+        shares: o.shares as usize,
+        rows: m,
+        columns: m + 1,
+    };
+    let zero = table::opens_zero(shape, table, c, c, nonzero, mask);
     verdict::refuse_if(
         zero,
         Refusal::ZeroPivot(Cell {
@@ -317,31 +255,20 @@ fn no12(o: Order, p: Place, table: &[u8], mask: &[u8], nonzero: &[u8]) -> Verdic
 }
 
 // 1 to 5, 10, 19, 11, 6, 7, 14, 8, 15, 9, 20, 12
-pub fn step(p: Progress, table: &[u8], solution: &[u8], mask: &[u8], nonzero: &[u8]) -> Verdict
+pub fn step(
+    p: Progress,
+    table: &[u8],
+    solution: &[u8],
+    mask: &[u8],
+    nonzero: &[u8],
+) -> Result<(), Refusal>
     ensures { told result ≡ step_order p table.now solution.now (length mask.now) nonzero.now }
 {
-    let o = Order {
-        field: p.field,
-        shares: p.shares,
-        size: p.size,
-    };
-    let place = p.place;
-    let v = sizes(o);
-    let Verdict::Pass = v else {
-        return v;
-    };
-    let w = placing(p, table.len(), solution.len());
-    let Verdict::Pass = w else {
-        return w;
-    };
-    let x = verdict::no6(o.field, table_rows(o), table);
-    let Verdict::Pass = x else {
-        return x;
-    };
-    let y = lending(o, place, mask.len(), nonzero);
-    let Verdict::Pass = y else {
-        return y;
-    };
-    let z = no20(o, place, solution);
-    verdict::or_else(z, no12(o, place, table, mask, nonzero))
+    let o = p.order();
+    sizes(o)?;
+    placing(p, table.len(), solution.len())?;
+    verdict::no6(o.field, table_rows(o), table)?;
+    lending(o, p.place, mask.len(), nonzero)?;
+    no20(o, p.place, solution)?;
+    no12(o, p.place, table, mask, nonzero)
 }

@@ -1,6 +1,7 @@
 // The public calls: start, step, solve, deal, gather, the counts of an order, and what the next step wants. Stands on walk.
 // The entry calls are `start`, `counts`, `wanted`, `deal`, `gather`, `step` and `solve`: each takes any numbers, tables and tapes, does all its own
 // checking, and promises by one equation its answer and every lent byte, refusals included.
+// stays: (a) field, shares and size come as three numbers, as in 01's calls and in the C interface (hz_start, hz_deal, hz_gather, hz_solve, hz_counts)
 #![tactic(auto)]
 
 mod checks;
@@ -8,108 +9,75 @@ mod checks;
 ghost use Rattle.std.specs.Prelude.{◌≡◌};
 ghost use Rattle.course.specs.StepList.{revealed_by};
 ghost use Rattle.walk.specs.Act.{held};
-ghost use Rattle.verdict.specs.Calls.{after, gives};
-ghost use Rattle.solver.specs.Calls.{order, start_says, start_call, count_says, counts_call, fill_says, deal_call, gather_call, solve_says, solve_call, Tells, Taken, step_says, step_call, tells, lent, want_says, wanted_call};
+ghost use Rattle.verdict.specs.Calls.{after};
+ghost use Rattle.verdict.specs.Code.Verdicts.{says};
+ghost use Rattle.solver.specs.Calls.{order, start_call, counts_call, deal_call, gather_call, solve_call, Tells, Taken, step_says, left_by, step_call, tells, lent, wanted_call};
 
-use course::{Counts, Order, Place, Progress, Step};
-use verdict::{Refusal, Verdict};
+use course::{Counts, Draws, Order, Place, Progress, Step};
+use std::fmt;
+use verdict::Refusal;
 use walk::Ending;
 
-#[derive(Clone, Copy)]
-pub enum Starting {
-    Fresh(Progress),
-    Refused(Refusal),
-}
-
-#[derive(Clone, Copy)]
-pub enum Counting {
-    Counted(Counts),
-    Refused(Refusal),
-}
-
-// Mask draws and nonzero draws.
-#[derive(Clone, Copy)]
-pub enum Wanting {
-    Wanted(usize, usize),
-    Refused(Refusal),
-}
-
-#[derive(Clone, Copy)]
-pub enum Filling {
-    Filled,
-    Refused(Refusal),
-}
-
-#[derive(Clone, Copy)]
-pub enum Solving {
-    Solved(Counts),
-    Stopped(u64, Counts),
-    Refused(Refusal),
-}
-
-#[derive(Clone, Copy)]
-pub enum Stepping {
+// What a step tells.
+#[derive(Clone, Copy, Debug, PartialEq, Eq)]
+pub enum Stride {
     Moved,
     Opened(u64, u8),
     Stopped(u64),
     Done(u8),
-    Refused(Refusal),
 }
 
-// A step's answer, and the record at the following place; on a refusal the record as it was.
-#[derive(Clone, Copy)]
+// How the programs print it.
+impl fmt::Display for Stride {
+    fn fmt<W: fmt::Write>(&self, f: &mut fmt::Formatter<W>) -> fmt::Result {
+        match self {
+            Stride::Moved => write!(f, "moved"),
+            Stride::Opened(j, x) => write!(f, "opened x_{j} = {x}"),
+            Stride::Stopped(j) => write!(f, "stopped {j}"),
+            Stride::Done(x) => write!(f, "done, x_1 = {x}"),
+        }
+    }
+}
+
+// What a step tells, and the record at the following place.
+#[derive(Clone, Copy, Debug, PartialEq, Eq)]
 pub struct Stepped {
-    pub answer: Stepping,
+    pub told: Stride,
     pub next: Progress,
 }
 
 // A fresh record, or refusal 1, 2, 3.
-pub fn start(field: u64, shares: u64, size: u64) -> Starting
-    ensures { after (start_says result) tt ≡ start_call (order field shares size) }
+pub fn start(field: u64, shares: u64, size: u64) -> Result<Progress, Refusal>
+    ensures { after (says result) tt ≡ start_call (order field shares size) }
 {
     let o = Order {
         field,
         shares,
         size,
     };
-    match checks::sizes(o) {
-        Verdict::Refuse(r) => Starting::Refused(r),
-        Verdict::Pass => Starting::Fresh(Progress::start(o)),
-    }
+    checks::sizes(o)?;
+    Ok(Progress::start(o))
 }
 
 // The steps, mask draws and nonzero draws of a full solve, or refusal 1, 2, 3.
-pub fn counts(field: u64, shares: u64, size: u64) -> Counting
-    ensures { after (count_says result) tt ≡ counts_call (order field shares size) }
+pub fn counts(field: u64, shares: u64, size: u64) -> Result<Counts, Refusal>
+    ensures { after (says result) tt ≡ counts_call (order field shares size) }
 {
     let o = Order {
         field,
         shares,
         size,
     };
-    match checks::sizes(o) {
-        Verdict::Refuse(r) => Counting::Refused(r),
-        Verdict::Pass => Counting::Counted(course::full_counts(o)),
-    }
+    checks::sizes(o)?;
+    Ok(course::full_counts(o))
 }
 
 // The draws that the step at the record's place must be lent, exactly: mask draws and nonzero draws. Or refusal 1, 2, 3, 10, 19, 11.
-pub fn wanted(p: Progress) -> Wanting
-    ensures { after (want_says result) tt ≡ wanted_call p }
+pub fn wanted(p: Progress) -> Result<Draws, Refusal>
+    ensures { after (says result) tt ≡ wanted_call p }
 {
-    let o = Order {
-        field: p.field,
-        shares: p.shares,
-        size: p.size,
-    };
-    let place = p.place;
-    match checks::wanted(p) {
-        Verdict::Refuse(r) => Wanting::Refused(r),
-        Verdict::Pass => {
-            let d = checks::cost_at(o, place);
-            Wanting::Wanted(d.mask, d.nonzero)
-        }
-    }
+    checks::wanted(p)?;
+    Ok(checks::cost_at(p.order(), p.place))
 }
 
 // Values in row order into a table of shares.
@@ -120,48 +88,37 @@ pub fn deal(
     values: &[u8],
     table: &mut [u8],
     mask: &[u8],
-) -> Filling
-    ensures { after (fill_says result) table.new ≡ deal_call (order field shares size) values.now mask.now table.old }
+) -> Result<(), Refusal>
+    ensures { after (says result) table.new ≡ deal_call (order field shares size) values.now mask.now table.old }
 {
     let o = Order {
         field,
         shares,
         size,
     };
-    match checks::deal(o, values, table.len(), mask.len()) {
-        Verdict::Refuse(r) => Filling::Refused(r),
-        Verdict::Pass => {
-            walk::deal(field, shares as usize, table, values, mask);
-            Filling::Filled
-        }
-    }
+    checks::deal(o, values, table.len(), mask.len())?;
+    walk::deal(field, shares as usize, table, values, mask);
+    Ok(())
 }
 
 // The values of a table of shares, in row order.
-pub fn gather(field: u64, shares: u64, size: u64, table: &[u8], values: &mut [u8]) -> Filling
-    ensures { after (fill_says result) values.new ≡ gather_call (order field shares size) table.now values.old }
+pub fn gather(
+    field: u64,
+    shares: u64,
+    size: u64,
+    table: &[u8],
+    values: &mut [u8],
+) -> Result<(), Refusal>
+    ensures { after (says result) values.new ≡ gather_call (order field shares size) table.now values.old }
 {
     let o = Order {
         field,
         shares,
         size,
     };
-    match checks::gather(o, table, values.len()) {
-        Verdict::Refuse(r) => Filling::Refused(r),
-        Verdict::Pass => {
-            walk::gather(field, shares as usize, table, values);
-            Filling::Filled
-        }
-    }
-}
-
-fn ending(e: Ending) -> Solving
-    ensures { solve_says result ≡ gives e }
-{
-    match e {
-        Ending::Solved(c) => Solving::Solved(c),
-        Ending::Stopped(j, c) => Solving::Stopped(j, c),
-    }
+    checks::gather(o, table, values.len())?;
+    walk::gather(field, shares as usize, table, values);
+    Ok(())
 }
 
 // The whole solve. The first promise fixes the answer and every lent byte; the second says what the answer means, and the third what its
@@ -174,75 +131,52 @@ pub fn solve(
     solution: &mut [u8],
     mask: &[u8],
     nonzero: &[u8],
-) -> Solving
-    ensures outcome { after (solve_says result) (held table.new solution.new) ≡ solve_call (order field shares size) (held table.old solution.old) mask.now nonzero.now }
-    ensures meaning { Tells (order field shares size) table.old (solve_says result) solution.new }
-    ensures counters { Taken (order field shares size) (solve_says result) }
+) -> Result<Ending, Refusal>
+    ensures outcome { after (says result) (held table.new solution.new) ≡ solve_call (order field shares size) (held table.old solution.old) mask.now nonzero.now }
+    ensures meaning { Tells (order field shares size) table.old (says result) solution.new }
+    ensures counters { Taken (order field shares size) (says result) }
 {
     let o = Order {
         field,
         shares,
         size,
     };
-    match checks::solve(o, &table[..], solution.len(), mask.len(), nonzero) {
-        Verdict::Refuse(r) => Solving::Refused(r),
-        Verdict::Pass => ending(walk::solve(o, table, solution, mask, nonzero)),
-    }
+    checks::solve(o, &table[..], solution.len(), mask.len(), nonzero)?;
+    Ok(walk::solve(o, table, solution, mask, nonzero))
 }
 
 // What a step tells that opened x.
-fn answer(s: Step, x: u8) -> Stepping
-    ensures { step_says result ≡ gives (tells (revealed_by s) x) }
+fn answer(s: Step, x: u8) -> Stride
+    ensures { result ≡ tells (revealed_by s) x }
 {
-    if let Step::Check(j) = s {
-        if x == 1 {
-            return Stepping::Stopped(j);
-        }
-        return Stepping::Moved;
-    }
-    let Step::Open(j) = s else {
-        return Stepping::Moved;
-    };
-    if j == 1 {
-        Stepping::Done(x)
-    } else {
-        Stepping::Opened(j, x)
+    match s {
+        Step::Check(j) if x == 1 => Stride::Stopped(j),
+        Step::Open(1) => Stride::Done(x),
+        Step::Open(j) => Stride::Opened(j, x),
+        _ => Stride::Moved,
     }
 }
 
-// One step: the one at the record's place, lent exactly its draws.
+// One step: the one at the record's place, lent exactly its draws. On a refusal the record stands as it was.
 pub fn step(
     p: Progress,
     table: &mut [u8],
     solution: &mut [u8],
     mask: &[u8],
     nonzero: &[u8],
-) -> Stepped
-    ensures { after (step_says result.answer) (lent result.next (held table.new solution.new)) ≡ step_call p (held table.old solution.old) mask.now nonzero.now }
+) -> Result<Stepped, Refusal>
+    ensures { after (step_says result) (lent (left_by p result) (held table.new solution.new)) ≡ step_call p (held table.old solution.old) mask.now nonzero.now }
 {
-    let o = Order {
-        field: p.field,
-        shares: p.shares,
-        size: p.size,
-    };
-    let place = p.place;
-    match checks::step(p, &table[..], &solution[..], mask, nonzero) {
-        Verdict::Refuse(r) => Stepped {
-            answer: Stepping::Refused(r),
+    checks::step(p, &table[..], &solution[..], mask, nonzero)?;
+    let Place::At(s) = p.place else {
+        return Ok(Stepped {
+            told: Stride::Moved,
             next: p,
-        },
-        Verdict::Pass => {
-            let Place::At(s) = place else {
-                return Stepped {
-                    answer: Stepping::Moved,
-                    next: p,
-                };
-            };
-            let x = walk::act(o, s, table, solution, mask, nonzero);
-            Stepped {
-                answer: answer(s, x),
-                next: p.next(s, x),
-            }
-        }
-    }
+        });
+    };
+    let x = walk::act(p.order(), s, table, solution, mask, nonzero);
+    Ok(Stepped {
+        told: answer(s, x),
+        next: p.next(s, x),
+    })
 }

@@ -3,8 +3,10 @@
 #![tactic(auto)]
 
 use course::{Order, Place, Progress};
-use solver::{Starting, Stepping, Wanting};
+use show::{Hex, Outcome};
+use solver::Stride;
 use std::io;
+use verdict::Refusal;
 
 // The nonzero draws of F16, each once; the largest system takes as many.
 const NONZERO: [u8; 15] = *b"\xba\x9f\x16\x53\xc1\x8d\x72\x2e\xe9\x34\x0b\xf7\x65\xd8\x4c";
@@ -33,9 +35,9 @@ fn start_of(o: Order) -> u64 {
 
 fn fill(tape: &mut [u8], start: u64) {
     let mut x = start;
-    for i in 0..tape.len() {
+    for byte in tape {
         x = next(x);
-        tape[i] = high(x);
+        *byte = high(x);
     }
 }
 
@@ -64,9 +66,9 @@ fn bytes_of(entries: usize, shares: u64) -> usize {
 }
 
 fn show_left(out: &impl Print, table: &[u8], x: &[u8]) -> io::Result<()> {
-    show::bytes(out, "  table", table)?;
-    show::bytes(out, "\n  solution", x)?;
-    show::text(out, "\n")
+    print!(out; "  table{}", Hex(table))?;
+    print!(out; "\n  solution{}", Hex(x))?;
+    print!(out; "\n")
 }
 
 // The solve of a dealt table.
@@ -78,10 +80,10 @@ fn whole(
     mask: &[u8],
 ) -> io::Result<()> {
     let a = solver::solve(o.field, o.shares, o.size, table, x, mask, &NONZERO);
-    show::say(out, show::verdict(a))?;
-    show::text(out, ": ")?;
-    show::say(out, show::taken(a))?;
-    show::text(out, "\n")?;
+    show::say(out, &a.map(Outcome::from))?;
+    print!(out; ": ")?;
+    show::say(out, &a.map(show::taken))?;
+    print!(out; "\n")?;
     show_left(out, table, x)
 }
 
@@ -89,17 +91,16 @@ fn whole(
 fn show_step(
     out: &impl Print,
     place: Place,
-    answer: Stepping,
+    answer: Result<Stride, Refusal>,
     table: &[u8],
     size: usize,
 ) -> io::Result<()> {
-    show::say_place(out, show::of_place(place))?;
-    show::text(out, ": ")?;
-    show::say(out, show::of_stepping(answer))?;
+    print!(out; "{place}: ")?;
+    show::say(out, &answer)?;
     if size <= 3 {
-        show::bytes(out, "; table", table)?;
+        print!(out; "; table{}", Hex(table))?;
     }
-    show::text(out, "\n")
+    print!(out; "\n")
 }
 
 // The step at p, and the record after it.
@@ -111,12 +112,12 @@ fn act(
     mask: &[u8],
     nonzero: &[u8],
 ) -> io::Result<Progress> {
-    let place = p.place;
-    let s = solver::step(p, table, x, mask, nonzero);
-    let answer = s.answer;
-    let next = s.next;
-    show_step(out, place, answer, table, x.len())?;
-    Ok(next)
+    let a = solver::step(p, table, x, mask, nonzero);
+    show_step(out, p.place, a.map(|s| s.told), table, x.len())?;
+    match a {
+        Ok(s) => Ok(s.next),
+        Err(_) => Ok(p),
+    }
 }
 
 // A step that is lent so many draws, of each tape from where the run has come to.
@@ -129,25 +130,14 @@ fn lend(
     x: &mut [u8],
     mask: &[u8],
 ) -> io::Result<Run> {
-    let p = r.record;
     let a = r.mask;
     let b = r.nonzero;
-    if mask.len() < a {
+    let d = a.saturating_add(draws);
+    let e = b.saturating_add(others);
+    let (Some(mask), Some(nonzero)) = (mask.get(a..d), NONZERO.get(b..e)) else {
         return Ok(r);
-    }
-    if mask.len() - a < draws {
-        return Ok(r);
-    }
-    if 15 < b {
-        return Ok(r);
-    }
-    if 15 - b < others {
-        return Ok(r);
-    }
-    let d = a + draws;
-    let e = b + others;
-    let nonzero = NONZERO;
-    let record = act(out, p, table, x, &mask[a..d], &nonzero[b..e])?;
+    };
+    let record = act(out, r.record, table, x, mask, nonzero)?;
     Ok(Run {
         record,
         mask: d,
@@ -157,10 +147,9 @@ fn lend(
 
 // One step, lent what its record wants. A record that has ended wants nothing, and the run stays as it is.
 fn one(out: &impl Print, r: Run, table: &mut [u8], x: &mut [u8], mask: &[u8]) -> io::Result<Run> {
-    let p = r.record;
-    match solver::wanted(p) {
-        Wanting::Wanted(draws, others) => lend(out, r, draws, others, table, x, mask),
-        Wanting::Refused(_) => Ok(r),
+    match solver::wanted(r.record) {
+        Ok(d) => lend(out, r, d.mask, d.nonzero, table, x, mask),
+        Err(_) => Ok(r),
     }
 }
 
@@ -192,9 +181,10 @@ fn solve_in(
     draws: &[u8],
     mask: &[u8],
 ) -> io::Result<()> {
-    solver::deal(o.field, o.shares, o.size, values, table, draws);
-    show::bytes(out, "  table", table)?;
-    show::text(out, "\n")?;
+    // a table that was not dealt is shown as it is
+    let _ = solver::deal(o.field, o.shares, o.size, values, table, draws);
+    print!(out; "  table{}", Hex(table))?;
+    print!(out; "\n")?;
     whole(out, o, table, x, mask)
 }
 
@@ -207,10 +197,10 @@ fn step_in(
     draws: &[u8],
     mask: &[u8],
 ) -> io::Result<()> {
-    let Starting::Fresh(p) = solver::start(o.field, o.shares, o.size) else {
+    let Ok(p) = solver::start(o.field, o.shares, o.size) else {
         return Ok(());
     };
-    solver::deal(o.field, o.shares, o.size, values, table, draws);
+    let _ = solver::deal(o.field, o.shares, o.size, values, table, draws);
     steps(out, p, table, x, mask)?;
     show_left(out, table, x)
 }
@@ -264,9 +254,7 @@ fn system(out: &impl Print, field: u64, shares: u64, values: &[u8]) -> io::Resul
     let mut mask = [0u8; 1515];
     fill(&mut draws, 0);
     fill(&mut mask, start_of(o));
-    show::order(out, field, shares, size)?;
-    show::bytes(out, ": values", values)?;
-    show::text(out, "\n")?;
+    print!(out; "{o}: values{}\n", Hex(values))?;
     by_solve(out, o, k, m, values, &draws, &mask)?;
     by_steps(out, o, k, m, values, &draws, &mask)
 }

@@ -6,10 +6,10 @@ use Prim.Native.Nat.{ℕ, zero, suc, ◌-◌, ◌*◌, ◌≤◌}
 use mathlib.Core.List.{List, [], ◌∷◌, map}
 use native.Mathlib.Omega.{arith}
 use native.Mathlib.Nat.{mul-le-mul}
-use lib.ListN.{length, take, drop}
+use lib.ListN.{length, get_or, take, drop}
 use Rattle.field.specs.Field.{Ops}
 use Rattle.sharing.specs.Rules.{four_of, refresh, scaled}
-use Rattle.sharing.proofs.Loops.{run_ext}
+use Rattle.sharing.proofs.Loops.{run_ext, rest}
 use Rattle.sharing.proofs.Lengths.{refresh-length, scaled-length}
 use Rattle.sharing.proofs.Inverting.{four_of-at}
 use Rattle.sharing.specs.Bounds.{most_columns}
@@ -68,3 +68,10 @@ refresh-scaled F n columns z ds row l =
   where
     lz : length (scaled F z row) ≡ columns * n
     lz = scaled-length F z row ∙ l
+
+-- one factor: a row multiplied whole, and refreshed by the draws from its own first on
+pub factor_done : (F : Ops) (n columns z i d : ℕ) (fs ds row s t : List ℕ) → length row ≡ columns * n → z ≡ get_or fs i 0 → d ≡ i * (columns * (n - 1))
+    → s ≡ scaled F z row → t ≡ refresh_row F n columns (take (length ds - d) (drop d ds)) s → t ≡ factor_turn F n columns fs ds i row
+unfolding factor_turn
+factor_done F n columns z i d fs ds row s t l ez ed es et =
+    et ∙ rw (rest d ds, ed, es, ez) (refresh-scaled F n columns (get_or fs i 0) (drop (i * (columns * (n - 1))) ds) row l)

@@ -1,8 +1,9 @@
 -- 01, "Sizes and layout": where an entry stands in the lent bytes. The rows have w entries each, m + 1 in a square system, and are as many
 -- as the caller says, so that a step serves tables of any shape.
 -- Assumes nothing.
-use Rattle.std.specs.Prelude.{ℕ, ◌+◌, ◌-◌, ◌*◌, ◌≤◌, List, ◌++◌, take, drop}
+use Rattle.std.specs.Prelude.{ℕ, ◌≡◌, ◌+◌, ◌-◌, ◌*◌, ◌≤◌, List, ◌++◌, length, take, drop}
 use Rattle.sharing.specs.Bounds.{most_rows, most_columns}
+use Rattle.table.specs.declared.Shape.{Shape}
 
 -- rows and columns are numbered from 1; share s of row r, column c is byte ((r-1)(m+1)+(c-1))n+(s-1)
 unfoldable pub cell : ℕ → ℕ → ℕ → ℕ → ℕ
@@ -50,3 +51,12 @@ pub record Inside (rows w r c : ℕ) : Type 0 where
   pub row_high : r ≤ rows
   pub column_low : 1 ≤ c
   pub column_high : c ≤ w
+
+-- a table of a shape's size; and one whose entries are shared
+pub record Laid (s : Shape) (t : List ℕ) : Type 0 where
+  pub fits : Fits s.shares s.rows s.columns
+  pub bytes : length t ≡ table_bytes s.shares s.rows s.columns
+
+pub record Shaped (s : Shape) (t : List ℕ) : Type 0 where
+  pub bounded : Bounded s.shares s.rows s.columns
+  pub bytes : length t ≡ table_bytes s.shares s.rows s.columns

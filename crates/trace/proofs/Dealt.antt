@@ -18,7 +18,7 @@ use Rattle.meaning.proofs.Dealt.{dealt-length, dealt_below, gather_deal, dealt_f
 use Rattle.verdict.specs.Told.{Told, passed, refused}
 use Rattle.solver.specs.Refusals.{entries, whole_table, deal_order, solve_order}
 use Rattle.verdict.specs.Calls.{refuses, gives, after, call}
-use Rattle.solver.specs.Calls.{filled, deal_call, gather_call}
+use Rattle.solver.specs.Calls.{deal_call, gather_call}
 use Rattle.solver.proofs.Ready.{Dealing, dealing}
 use Rattle.trace.proofs.Admitted.{gather_passes, solve_passes}
 
@@ -26,16 +26,16 @@ module _ (o : Order) (values mask table : List ℕ) where
   abbrev checks : Told
   checks = deal_order o values (length table) (length mask)
 
-  answered : (w : Told) → checks ≡ w → (deal_call o values mask table).says ≡ gives filled → checks ≡ passed
+  answered : (w : Told) → checks ≡ w → (deal_call o values mask table).says ≡ gives tt → checks ≡ passed
   unfolding deal_call call
   answered passed e h = e
   answered (refused l) e h =
-      let g : refuses l ≡ gives filled = rw e at h in
+      let g : refuses l ≡ gives tt = rw e at h in
       let z : ◌≡◌ {A = ℕ} 0 1 = cc in
       absurd (let n : ⊥ = omega arith in n)
 
   -- Deal answered filled
-  module _ (fills : (deal_call o values mask table).says ≡ gives filled) where
+  module _ (fills : (deal_call o values mask table).says ≡ gives tt) where
     passes : checks ≡ passed
     passes = answered checks refl fills
 
@@ -67,7 +67,7 @@ module _ (o : Order) (values mask table : List ℕ) where
 
     -- Gather then answers filled, with the values
     pub gather_after_deal : (out : List ℕ) → length out ≡ entries o.size
-        → gather_call o (deal_call o values mask table).left out ≡ after (gives filled) values
+        → gather_call o (deal_call o values mask table).left out ≡ after (gives tt) values
     unfolding gather_call call
     gather_after_deal out e =
         rw (gathered_values, gather_passes o lent.sizes (deal_call o values mask table).left (ap length left ∙ whole) (rw left elements) (length out) e)

@@ -33,7 +33,7 @@ use Rattle.plain.proofs.Admitted.{Admitted, admits}
 use Rattle.plain.proofs.Sound.{sound}
 use Rattle.plain.proofs.Meaning.{elements}
 use Rattle.solver.specs.Refusals.{entries, solve_order}
-use Rattle.solver.specs.Calls.{filled, deal_call, solve_does, solve_call}
+use Rattle.solver.specs.Calls.{deal_call, solve_does, solve_call}
 use Rattle.solver.proofs.Ready.{Solvable, solvable}
 use Rattle.solver.proofs.Meaning.{lending}
 use Rattle.trace.specs.Twin.{plainly}
@@ -95,7 +95,7 @@ module _ (o : Order) (t values : List ℕ) (gathers : gathered o.field o.shares 
         ∙ ap plainly (sym (call_goes _ (held t x) (solve_does (solved o mask nonzero (held t x))) pass))
 
 -- Deal's own tables, whatever their draws were
-pub plain_dealt : (o : Order) (values draws table : List ℕ) → (deal_call o values draws table).says ≡ gives filled
+pub plain_dealt : (o : Order) (values draws table : List ℕ) → (deal_call o values draws table).says ≡ gives tt
     → (x mask nonzero y : List ℕ) → length x ≡ o.size → length y ≡ o.size → full_mask o ≤ length mask → full_nonzero o ≤ length nonzero
     → NoZero o nonzero
     → plain_call o.field o.size values y ≡ plainly (solve_call o (held (deal_call o values draws table).left x) mask nonzero)

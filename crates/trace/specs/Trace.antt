@@ -20,7 +20,8 @@ use Rattle.walk.specs.Act.{Held, held, opened, written, acted}
 use Rattle.verdict.specs.Told.{Line, passed}
 use Rattle.solver.specs.Refusals.{whole_table, no20}
 use Rattle.verdict.specs.Calls.{refuses, gives, Outcome}
-use Rattle.solver.specs.Calls.{Stride, tells, Lent, lent, step_call}
+use Rattle.solver.specs.declared.Stride.{Stride}
+use Rattle.solver.specs.Calls.{tells, Lent, lent, step_call}
 use Rattle.trace.specs.Driving.{Beside, accepts, uses, drive_by, calls_by, driven_by, NoneZero}
 use Rattle.trace.specs.Numbers.{Among}
 

@@ -1,9 +1,8 @@
 -- A call at work: what it says and leaves where its checks refuse, and where they pass.
 -- Assumes nothing.
 use mathlib.Core.Path.{◌≡◌, refl, sym, ap, ◌∙◌, subst}
+use Rattle.std.specs.Prelude.{Result, Ok, Err}
 use Rattle.verdict.specs.declared.Refusal.{Refusal}
-use Rattle.verdict.specs.declared.Verdict.{Verdict}
-use Rattle.verdict.specs.declared.Verdict.TheVariants.{Pass, Refuse}
 use Rattle.verdict.specs.Told.{Told, Line, passed, refused}
 use Rattle.verdict.specs.Refusals.{paper}
 use Rattle.verdict.specs.Calls.{refuses, Outcome, after, call}
@@ -29,9 +28,9 @@ module _ {A L : Type 0} where
       → ((l : Line) → P (after (refuses l) found)) → (x ≡ passed → P does) → P o
   outcome_holds P x found does o e r d = subst P (sym e) (call_holds P x found does r d)
 
-  pub refuses_call : (v : Verdict) (r : Refusal) (x : Told) (found : L) (does : Outcome A L) → told v ≡ x → v ≡ Refuse r
+  pub refuses_call : (v : Result (Unit {0}) Refusal) (r : Refusal) (x : Told) (found : L) (does : Outcome A L) → told v ≡ x → v ≡ Err r
       → after (refuses (paper r)) found ≡ call x found does
   refuses_call v r x found does e h = sym (call_stops x found does (paper r) (sym e ∙ ap told h))
 
-  pub passes_call : (v : Verdict) (x : Told) (found : L) (does : Outcome A L) → told v ≡ x → v ≡ Pass → does ≡ call x found does
-  passes_call v x found does e h = sym (call_goes x found does (sym e ∙ ap told h))
+  pub passes_call : (v : Result (Unit {0}) Refusal) (u : Unit {0}) (x : Told) (found : L) (does : Outcome A L) → told v ≡ x → v ≡ Ok u → does ≡ call x found does
+  passes_call v u x found does e h = sym (call_goes x found does (sym e ∙ ap told h))

@@ -1,14 +1,17 @@
 -- A scan for the first place that meets a test, whatever the test: what holds at place i of its loop, where it ends, and what stands before.
 -- Assumes nothing.
-use mathlib.Core.Bool.{Bool, true, false}
+use mathlib.Core.Bool.{Bool, true, false, not}
 use mathlib.Core.List.{List, [], ◌∷◌}
-use mathlib.Core.Path.{◌≡◌, refl}
+use mathlib.Core.Path.{◌≡◌, refl, sym, ◌∙◌}
 use Prim.Native.Nat.{ℕ, zero, suc, ◌+◌, ◌<◌, ◌≤◌}
 use native.Mathlib.Numerals.{add-one}
 use native.Mathlib.Omega.{arith}
 use lib.ListN.{length, drop, get_or, length-drop}
 use lib.Seq.{drop-cons}
-use Rattle.verdict.specs.Refusals.{first_place, or_next}
+use borrow.Author.Tests.{le-ltb}
+use Rattle.std.specs.Prelude.{Some, None, cond, nat_lt, position}
+use Rattle.std.specs.List.{position_or_len}
+use Rattle.verdict.specs.Refusals.{first_place, or_next, any_place}
 
 -- the first place is at i or later
 unfoldable pub Passed : (ℕ → Bool) → List ℕ → ℕ → Type 0
@@ -58,3 +61,38 @@ pub before-first : (test : ℕ → Bool) (s : List ℕ) (k : ℕ) → k < first_
 unfolding first_place
 before-first test [] k h = absurd (omega arith)
 before-first test (x ∷ s) k h = one_on test x s (test x) refl (before-first test s) k h
+
+-- ---- the library's `position`
+
+one_more : {n k : ℕ} (b : Bool) → n ≡ k → cond (not b) (1 + n) 0 ≡ or_next b k
+one_more true e = refl
+one_more false e = omega (arith, e)
+
+pub first_len : (test : ℕ → Bool) (s : List ℕ) → position_or_len test s ≡ first_place test s
+unfolding first_place
+first_len test [] = refl
+first_len test (x ∷ s) = one_more (test x) (first_len test s)
+
+module _ (test : ℕ → Bool) (s : List ℕ) where
+  here_or_none : (b : Bool) → nat_lt (position_or_len test s) (length s) ≡ b → position test s ≡ cond b (Some (first_place test s)) None
+  here_or_none b e = rw (e, first_len test s)
+
+  any : any_place test s ≡ nat_lt (position_or_len test s) (length s)
+  any = rw (first_len test s)
+
+  pub found : (k : ℕ) → position test s ≡ Some k → (any_place test s ≡ true) × (first_place test s ≡ k)
+  found k e = on (nat_lt (position_or_len test s) (length s)) refl
+    where
+      on : (b : Bool) → nat_lt (position_or_len test s) (length s) ≡ b → (any_place test s ≡ true) × (first_place test s ≡ k)
+      on true h = let w : Some (first_place test s) ≡ Some k = sym (here_or_none true h) ∙ e in (any ∙ h, cc)
+      on false h = let w : None ≡ Some k = sym (here_or_none false h) ∙ e in cc
+
+  pub unfound : position test s ≡ None → any_place test s ≡ false
+  unfound e = on (nat_lt (position_or_len test s) (length s)) refl
+    where
+      on : (b : Bool) → nat_lt (position_or_len test s) (length s) ≡ b → any_place test s ≡ false
+      on true h = let w : Some (first_place test s) ≡ None = sym (here_or_none true h) ∙ e in cc
+      on false h = any ∙ h
+
+  pub none_found : length s ≡ first_place test s → position test s ≡ None
+  none_found e = here_or_none false (le-ltb _ _ (rw (first_len test s) (omega (arith, e))))

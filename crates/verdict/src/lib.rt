@@ -3,15 +3,18 @@
 // length is right.
 #![tactic(auto)]
 
-ghost use Rattle.std.specs.Prelude.{◌≡◌, [], ◌∷◌, ◌+◌, ◌*◌, ◌/◌, ◌%◌, ◌<◌, ◌≤◌, ltb, length, take};
+ghost use Rattle.std.specs.Prelude.{◌≡◌, [], ◌∷◌, ◌+◌, ◌*◌, ◌/◌, ◌%◌, ◌<◌, ◌≤◌, length, take, position};
 ghost use Rattle.verdict.specs.Told.{line, when, refuse, refused, ◌or◌};
 ghost use Rattle.verdict.specs.Cells.{cell, three, cell_at, NonEmpty};
 ghost use Rattle.verdict.specs.Refusals.{paper, report_of, outside, first_place, too_large, zero_draw, no1, no2, no3, no4, no5, no6, no7, no8, no9, no14, no15, no21, numbers, buffers, exactly, at_least};
 ghost use Rattle.verdict.specs.Code.Verdicts.{told};
 ghost use Rattle.verdict.specs.Code.Scan.{some_bits, column_bits, block_bits, blocks_bits, TellsSmall};
 
+use std::error::Error;
+use std::fmt;
+
 // Where an entry's byte stands: its row, its column and its share, each from 1. Share 0 says that it is of no single share.
-#[derive(Clone, Copy)]
+#[derive(Clone, Copy, Debug, PartialEq, Eq)]
 pub struct Cell {
     pub row: u64,
     pub column: u64,
@@ -19,14 +22,14 @@ pub struct Cell {
 }
 
 // What the bytes that a call reads are, in rows of `width` entries: sharings of so many bytes each, or values, which have no shares.
-#[derive(Clone, Copy)]
+#[derive(Clone, Copy, Debug, PartialEq, Eq)]
 pub enum Rows {
     Shared { shares: usize, width: usize },
     Values { width: usize },
 }
 
 // 01's table of refusals, with each one's detail.
-#[derive(Clone, Copy)]
+#[derive(Clone, Copy, Debug, PartialEq, Eq)]
 pub enum Refusal {
     // 1: the field's number
     Field(u64),
@@ -66,7 +69,7 @@ pub enum Refusal {
 }
 
 // A refusal as numbers: 01's number, and its detail; what the detail has not is 0.
-#[derive(Clone, Copy)]
+#[derive(Clone, Copy, Debug, PartialEq, Eq)]
 pub struct Report {
     pub number: u64,
     pub a: u64,
@@ -126,31 +129,27 @@ impl Refusal {
     }
 }
 
-#[derive(Clone, Copy)]
-pub enum Verdict {
-    Pass,
-    Refuse(Refusal),
-}
-
-// The first verdict, or the second where the first passes.
-pub fn or_else(v: Verdict, w: Verdict) -> Verdict
-    ensures { told result ≡ told v or told w }
-{
-    match v {
-        Verdict::Pass => w,
-        Verdict::Refuse(_) => v,
+// A number and its detail, as the programs print them.
+impl fmt::Display for Refusal {
+    fn fmt<W: fmt::Write>(&self, f: &mut fmt::Formatter<W>) -> fmt::Result {
+        let r = self.report();
+        write!(f, "refused {}", r.number)?;
+        match self {
+            Refusal::Entry(_) | Refusal::ZeroPivot(_) => {
+                write!(f, ", row {}, column {}, share {}", r.a, r.b, r.c)
+            }
+            _ => write!(f, ", detail {}", r.a),
+        }
     }
 }
+
+impl Error for Refusal {}
 
 // r where the test holds.
-pub fn refuse_if(applies: bool, r: Refusal) -> Verdict
+pub fn refuse_if(applies: bool, r: Refusal) -> Result<(), Refusal>
     ensures { told result ≡ when applies (refused (paper r)) }
 {
-    if applies {
-        Verdict::Refuse(r)
-    } else {
-        Verdict::Pass
-    }
+    if applies { Err(r) } else { Ok(()) }
 }
 
 pub fn is_outside(low: u64, high: u64, x: u64) -> bool
@@ -161,35 +160,35 @@ pub fn is_outside(low: u64, high: u64, x: u64) -> bool
 
 // ---- 1 to 9, 14, 15 and 21
 
-pub fn no1(field: u64) -> Verdict
+pub fn no1(field: u64) -> Result<(), Refusal>
     ensures { told result ≡ no1 field }
 {
     refuse_if(field != 16 && field != 256, Refusal::Field(field))
 }
 
 // shares below 2 or above 4
-pub fn no2(shares: u64) -> Verdict
+pub fn no2(shares: u64) -> Result<(), Refusal>
     ensures { told result ≡ no2 shares }
 {
     refuse_if(is_outside(2, 4, shares), Refusal::Shares(shares))
 }
 
 // size below 1 or above 96
-pub fn no3(size: u64) -> Verdict
+pub fn no3(size: u64) -> Result<(), Refusal>
     ensures { told result ≡ no3 size }
 {
     refuse_if(is_outside(1, sharing::MOST_ROWS, size), Refusal::Size(size))
 }
 
 // input table or value list of wrong length
-pub fn no4(wanted: usize, length: usize) -> Verdict
+pub fn no4(wanted: usize, length: usize) -> Result<(), Refusal>
     ensures { told result ≡ no4 wanted length }
 {
     refuse_if(length != wanted, Refusal::Input(wanted))
 }
 
 // solution or target of wrong length
-pub fn no5(wanted: usize, length: usize) -> Verdict
+pub fn no5(wanted: usize, length: usize) -> Result<(), Refusal>
     ensures { told result ≡ no5 wanted length }
 {
     refuse_if(length != wanted, Refusal::Target(wanted))
@@ -206,8 +205,8 @@ fn some_bits(s: &[u8]) -> u8
     ensures { result ≡ some_bits s.now }
 {
     let mut v: u8 = 0;
-    for i in 0..s.len() {
-        v |= s[i];
+    for x in s {
+        v |= *x;
     }
     v
 }
@@ -218,10 +217,8 @@ fn column_bits(s: &[u8], at: usize) -> u8
     ensures { result ≡ column_bits s.now at }
 {
     let mut v: u8 = 0;
-    let mut p = at;
     for i in 0..8usize {
-        v |= s[p];
-        p += 16;
+        v |= s[at + i * 16];
     }
     v
 }
@@ -231,8 +228,8 @@ fn join_block(lanes: &mut [u8], s: &[u8], at: usize)
     requires { (length lanes.old ≡ 16) × (at + 128 ≤ length s.now) }
     ensures { lanes.new ≡ block_bits s.now at lanes.old }
 {
-    for q in 0..16 {
-        lanes[q] |= column_bits(s, at + q);
+    for (q, lane) in lanes.iter_mut().enumerate() {
+        *lane |= column_bits(s, at + q);
     }
 }
 
@@ -240,10 +237,8 @@ fn join_blocks(lanes: &mut [u8], s: &[u8], blocks: usize)
     requires { (length lanes.old ≡ 16) × (blocks * 128 ≤ length s.now) }
     ensures { lanes.new ≡ blocks_bits s.now blocks lanes.old }
 {
-    let mut at: usize = 0;
     for u in 0..blocks {
-        join_block(lanes, s, at);
-        at += 128;
+        join_block(lanes, s, u * 128);
     }
 }
 
@@ -261,22 +256,14 @@ fn all_small(s: &[u8]) -> bool
     some_bits(&lanes[..]) < 16
 }
 
-fn first_too_large(f: u64, s: &[u8]) -> usize
-    ensures { result ≡ first_place (too_large f) s.now }
+// The first place whose byte is no element of the field.
+fn first_too_large(f: u64, s: &[u8]) -> Option<usize>
+    ensures { result ≡ position (too_large f) s.now }
 {
-    if f == 16 {
-        if all_small(s) {
-            return s.len();
-        }
+    if f == 16 && all_small(s) {
+        return None;
     }
-    let mut i = 0;
-    while i < s.len() {
-        if is_too_large(f, s[i]) {
-            return i;
-        }
-        i += 1;
-    }
-    i
+    s.iter().position(|x| is_too_large(f, *x))
 }
 
 // The cell of an entry, from 0, in rows of this width, with its share.
@@ -305,59 +292,40 @@ fn cell_at(rows: Rows, place: usize) -> Cell
     }
 }
 
-// What a scan of so many bytes tells that ended at a place.
-fn entry_at(rows: Rows, place: usize, length: usize) -> Verdict
-    requires { NonEmpty rows }
-    ensures { told result ≡ refuse 6 (ltb place length) (three (cell_at rows place)) }
-{
-    if place < length {
-        return Verdict::Refuse(Refusal::Entry(cell_at(rows, place)));
-    }
-    Verdict::Pass
-}
-
-// entry 16 or more in F16. The scan is called in both arms: where it is called once the compiler takes it in here, and then no longer takes this
-// into the calls, and each step pays some 130 instructions for it.
-pub fn no6(f: u64, rows: Rows, input: &[u8]) -> Verdict
+// entry 16 or more in F16
+pub fn no6(f: u64, rows: Rows, input: &[u8]) -> Result<(), Refusal>
     requires { NonEmpty rows }
     ensures { told result ≡ no6 f rows input.now }
 {
-    let length = input.len();
-    match rows {
-        Rows::Shared { shares, width } => {
-            let place = first_too_large(f, input);
-            entry_at(Rows::Shared { shares, width }, place, length)
-        }
-        Rows::Values { width } => {
-            let place = first_too_large(f, input);
-            entry_at(Rows::Values { width }, place, length)
-        }
+    match first_too_large(f, input) {
+        Some(place) => Err(Refusal::Entry(cell_at(rows, place))),
+        None => Ok(()),
     }
 }
 
 // mask tape too short
-pub fn no7(wanted: usize, length: usize) -> Verdict
+pub fn no7(wanted: usize, length: usize) -> Result<(), Refusal>
     ensures { told result ≡ no7 wanted length }
 {
     refuse_if(length < wanted, Refusal::MaskShort(wanted))
 }
 
 // nonzero tape too short
-pub fn no8(wanted: usize, length: usize) -> Verdict
+pub fn no8(wanted: usize, length: usize) -> Result<(), Refusal>
     ensures { told result ≡ no8 wanted length }
 {
     refuse_if(length < wanted, Refusal::NonzeroShort(wanted))
 }
 
 // in a step, mask tape too long
-pub fn no14(wanted: usize, length: usize) -> Verdict
+pub fn no14(wanted: usize, length: usize) -> Result<(), Refusal>
     ensures { told result ≡ no14 wanted length }
 {
     refuse_if(wanted < length, Refusal::MaskLong(wanted))
 }
 
 // in a step, nonzero tape too long
-pub fn no15(wanted: usize, length: usize) -> Verdict
+pub fn no15(wanted: usize, length: usize) -> Result<(), Refusal>
     ensures { told result ≡ no15 wanted length }
 {
     refuse_if(wanted < length, Refusal::NonzeroLong(wanted))
@@ -369,28 +337,24 @@ fn is_zero_draw(f: u64, x: u8) -> bool
     field::draw(f, x) == 0
 }
 
-fn first_zero_draw(f: u64, s: &[u8]) -> usize
-    ensures { result ≡ first_place (zero_draw f) s.now }
+// The first place whose draw is 0.
+fn first_zero_draw(f: u64, s: &[u8]) -> Option<usize>
+    ensures { result ≡ position (zero_draw f) s.now }
 {
-    let mut i = 0;
-    while i < s.len() {
-        if is_zero_draw(f, s[i]) {
-            return i;
-        }
-        i += 1;
-    }
-    i
+    s.iter().position(|x| is_zero_draw(f, *x))
 }
 
-pub fn no9(f: u64, draws: &[u8]) -> Verdict
+pub fn no9(f: u64, draws: &[u8]) -> Result<(), Refusal>
     ensures { told result ≡ no9 f draws.now }
 {
-    let i = first_zero_draw(f, draws);
-    refuse_if(i < draws.len(), Refusal::ZeroDraw(i))
+    match first_zero_draw(f, draws) {
+        Some(place) => Err(Refusal::ZeroDraw(place)),
+        None => Ok(()),
+    }
 }
 
 // wide: columns below the rows or above 144
-pub fn no21(rows: u64, columns: u64) -> Verdict
+pub fn no21(rows: u64, columns: u64) -> Result<(), Refusal>
     ensures { told result ≡ no21 rows columns }
 {
     refuse_if(is_outside(rows, 144, columns), Refusal::Columns(columns))
@@ -399,11 +363,12 @@ pub fn no21(rows: u64, columns: u64) -> Verdict
 // ---- how they follow each other
 
 // 1 to 3
-pub fn numbers(field: u64, shares: u64, size: u64) -> Verdict
+pub fn numbers(field: u64, shares: u64, size: u64) -> Result<(), Refusal>
     ensures { told result ≡ numbers field shares size }
 {
-    let v = or_else(no1(field), no2(shares));
-    or_else(v, no3(size))
+    no1(field)?;
+    no2(shares)?;
+    no3(size)
 }
 
 // 4 to 6, of what is read, and of what is written
@@ -414,14 +379,12 @@ pub fn buffers(
     input: &[u8],
     target: usize,
     length: usize,
-) -> Verdict
+) -> Result<(), Refusal>
     requires { NonEmpty rows }
     ensures { told result ≡ buffers f rows wanted input.now target length }
 {
-    let v = or_else(no4(wanted, input.len()), no5(target, length));
-    let Verdict::Pass = v else {
-        return v;
-    };
+    no4(wanted, input.len())?;
+    no5(target, length)?;
     no6(f, rows, input)
 }
 
@@ -432,16 +395,13 @@ pub fn exactly(
     wanted_nonzero: usize,
     mask: usize,
     nonzero: &[u8],
-) -> Verdict
+) -> Result<(), Refusal>
     ensures { told result ≡ exactly field wanted_mask wanted_nonzero mask nonzero.now }
 {
-    let v = no7(wanted_mask, mask);
-    let v = or_else(v, no14(wanted_mask, mask));
-    let v = or_else(v, no8(wanted_nonzero, nonzero.len()));
-    let v = or_else(v, no15(wanted_nonzero, nonzero.len()));
-    let Verdict::Pass = v else {
-        return v;
-    };
+    no7(wanted_mask, mask)?;
+    no14(wanted_mask, mask)?;
+    no8(wanted_nonzero, nonzero.len())?;
+    no15(wanted_nonzero, nonzero.len())?;
     no9(field, nonzero)
 }
 
@@ -459,13 +419,10 @@ pub fn at_least(
     wanted_nonzero: usize,
     mask: usize,
     nonzero: &[u8],
-) -> Verdict
+) -> Result<(), Refusal>
     ensures { told result ≡ at_least field wanted_mask wanted_nonzero mask nonzero.now }
 {
-    let v = no7(wanted_mask, mask);
-    let v = or_else(v, no8(wanted_nonzero, nonzero.len()));
-    let Verdict::Pass = v else {
-        return v;
-    };
+    no7(wanted_mask, mask)?;
+    no8(wanted_nonzero, nonzero.len())?;
     no9(field, front(nonzero, wanted_nonzero))
 }

@@ -7,17 +7,17 @@ ghost use Rattle.field.specs.Field.{field_of};
 ghost use Rattle.sharing.specs.Run.{tab};
 ghost use Rattle.sharing.specs.Rules.{draw_at};
 ghost use Rattle.sharing.specs.Bounds.{most_entries};
-ghost use Rattle.table.specs.Layout.{Bounded, table_bytes};
-ghost use Rattle.table.specs.Steps.{column_turn};
+ghost use Rattle.table.specs.Layout.{Shaped, table_bytes};
 ghost use Rattle.course.specs.StepList.{Sizes, in_list, column_of, cost_in, mask_cost, nonzero_cost, full_mask, full_nonzero};
 ghost use Rattle.walk.specs.Act.{held, Row, OtherRow, step_opens, step_leaves, opened, acted};
 ghost use Rattle.walk.specs.Walk.{leaves, solved};
-ghost use Rattle.walk.specs.Dealing.{dealt_entry, deal_turn, dealt, gathered};
+ghost use Rattle.walk.specs.Dealing.{dealt_entry, dealt, gathered};
 
 use course::{Counts, Order, Place, Progress, Step};
+use table::Shape;
 
 // How a solve ends, with the steps, mask draws and nonzero draws taken.
-#[derive(Clone, Copy)]
+#[derive(Clone, Copy, Debug, PartialEq, Eq)]
 pub enum Ending {
     Solved(Counts),
     Stopped(u64, Counts),
@@ -25,10 +25,7 @@ pub enum Ending {
 
 // Does one step where row r takes its column's pivot, on rows of w columns, and returns the number that it opened, 0 where it opens none.
 pub fn perform(
-    f: u64,
-    n: usize,
-    rows: usize,
-    w: usize,
+    shape: Shape,
     r: usize,
     s: Step,
     table: &mut [u8],
@@ -36,36 +33,36 @@ pub fn perform(
     mask: &[u8],
     nonzero: &[u8],
 ) -> u8
-    requires bounded { Bounded n rows w }
-    requires row { Row rows r × OtherRow rows s }
-    requires bound { (1 ≤ column_of s) × (column_of s + 1 ≤ w) × (column_of s ≤ length solution.old) }
-    requires table_len { length table.old ≡ table_bytes n rows w }
-    requires s_in_bounds { ((cost_in f n w s).mask ≤ length mask.now) × ((cost_in f n w s).nonzero ≤ length nonzero.now) }
-    ensures value { result ≡ step_opens f n w r s mask.now (held table.old solution.old) }
-    ensures solution_after { held table.new solution.new ≡ step_leaves f n w r s mask.now nonzero.now (held table.old solution.old) }
+    requires shaped { Shaped shape table.old }
+    requires row { Row shape.rows r × OtherRow shape.rows s }
+    requires bound { (1 ≤ column_of s) × (column_of s + 1 ≤ shape.columns) × (column_of s ≤ length solution.old) }
+    requires s_in_bounds { let cost = cost_in shape.field shape.shares shape.columns s in (cost.mask ≤ length mask.now) × (cost.nonzero ≤ length nonzero.now) }
+    ensures value { result ≡ step_opens shape.field shape.shares shape.columns r s mask.now (held table.old solution.old) }
+    ensures solution_after { held table.new solution.new
+        ≡ step_leaves shape.field shape.shares shape.columns r s mask.now nonzero.now (held table.old solution.old) }
 {
     match s {
         Step::Mix { j, k } => {
-            table::mix(f, n, rows, w, table, r, j as usize, k as usize, mask);
+            table::mix(shape, table, r, j as usize, k as usize, mask);
             0
         }
-        Step::Check(j) => table::check(f, n, rows, w, table, r, j as usize, mask),
+        Step::Check(j) => table::check(shape, table, r, j as usize, mask),
         Step::Scale(j) => {
-            table::scale(f, n, rows, w, table, r, j as usize, nonzero, mask);
+            table::scale(shape, table, r, j as usize, nonzero, mask);
             0
         }
         Step::Clear { j, k } => {
-            table::clear(f, n, rows, w, table, r, j as usize, k as usize, mask);
+            table::clear(shape, table, r, j as usize, k as usize, mask);
             0
         }
         Step::Open(j) => {
-            let x = table::open(f, n, rows, w, table, r, mask);
+            let x = table::open(shape, table, r, mask);
             solution[j as usize - 1] = x;
             x
         }
         Step::Lift(j) => {
             let c = j as usize;
-            table::lift(f, n, rows, w, table, r, c, solution[c - 1]);
+            table::lift(shape, table, r, c, solution[c - 1]);
             0
         }
     }
@@ -89,18 +86,13 @@ pub fn act(
 {
     let m = o.size as usize;
     let r = course::column_of(s) as usize;
-    perform(
-        o.field,
-        o.shares as usize,
-        m,
-        m + 1,
-        r,
-        s,
-        table,
-        solution,
-        mask,
-        nonzero,
-    )
+    let shape = Shape {
+        field: o.field,
+        shares: o.shares as usize,
+        rows: m,
+        columns: m + 1,
+    };
+    perform(shape, r, s, table, solution, mask, nonzero)
 }
 
 // The whole solve.
@@ -112,34 +104,32 @@ pub fn solve(o: Order, table: &mut [u8], solution: &mut [u8], mask: &[u8], nonze
 {
     let mut p = Progress::start(o);
     let mut steps: usize = 0;
+    // stays: the loop of wide_walk::solve is much the same, but what the two walks ask, take and leave at the end are two definitions of specs/:
+    // one walk over a trait would need a ghost member for each, and laws for how they hang together, for some ten lines that it saves.
     loop {
-        let q = p.place;
-        let at = p.mask as usize;
-        let at2 = p.nonzero as usize;
-        match q {
+        let counts = Counts {
+            steps,
+            mask: p.mask as usize,
+            nonzero: p.nonzero as usize,
+        };
+        match p.place {
             Place::At(s) => {
-                let x = act(o, s, table, solution, &mask[at..], &nonzero[at2..]);
+                let x = act(
+                    o,
+                    s,
+                    table,
+                    solution,
+                    &mask[counts.mask..],
+                    &nonzero[counts.nonzero..],
+                );
                 p = p.next(s, x);
                 steps += 1;
             }
             Place::Stopped(j) => {
                 sharing::wipe(solution);
-                return Ending::Stopped(
-                    j,
-                    Counts {
-                        steps: steps,
-                        mask: at,
-                        nonzero: at2,
-                    },
-                );
+                return Ending::Stopped(j, counts);
             }
-            Place::Done => {
-                return Ending::Solved(Counts {
-                    steps: steps,
-                    mask: at,
-                    nonzero: at2,
-                });
-            }
+            Place::Done => return Ending::Solved(counts),
         }
     }
 }
@@ -149,8 +139,8 @@ fn draw_shares(f: u64, e: &mut [u8], mask: &[u8])
     requires { length e.old ≤ length mask.now }
     ensures { e.new ≡ tab (length e.old) (draw_at (field_of f) mask.now) }
 {
-    for s in 0..e.len() {
-        e[s] = field::draw(f, mask[s]);
+    for (s, x) in e.iter_mut().enumerate() {
+        *x = field::draw(f, mask[s]);
     }
 }
 
@@ -164,37 +154,17 @@ fn deal_entry(f: u64, e: &mut [u8], v: u8, mask: &[u8])
     e[0] = field::sub(f, v, d);
 }
 
-// Entry number i, whose n bytes begin at p and whose draws at d.
-fn deal_turn(
-    f: u64,
-    n: usize,
-    table: &mut [u8],
-    values: &[u8],
-    mask: &[u8],
-    i: usize,
-    p: usize,
-    d: usize,
-)
-    requires le_n { (2 ≤ n) × (p ≡ i * n) × (d ≡ i * (n - 1)) × (i + 1 ≤ length values.now) }
-    requires n_in_bounds { (p + n ≤ length table.old) × (d + (n - 1) ≤ length mask.now) }
-    ensures { table.new ≡ column_turn n (deal_turn f n values.now mask.now) i table.old }
-{
-    let e = p + n;
-    deal_entry(f, &mut table[p..e], values[i], &mask[d..]);
-}
-
 // Deals all values, in row order.
 pub fn deal(f: u64, n: usize, table: &mut [u8], values: &[u8], mask: &[u8])
     requires le_n { (2 ≤ n) × (n ≤ 4) × (length values.now ≤ most_entries) }
     requires table_len { (length table.old ≡ length values.now * n) × (length values.now * (n - 1) ≤ length mask.now) }
     ensures { table.new ≡ dealt f n (length values.now) values.now mask.now table.old }
 {
-    let mut p: usize = 0;
-    let mut d: usize = 0;
-    for i in 0..values.len() {
-        deal_turn(f, n, table, values, mask, i, p, d);
-        p += n;
-        d += n - 1;
+    // stays: no `chunks_exact_mut`: once its borrows are over, a proof knows the length of the table and none of its bytes.
+    for (i, v) in values.iter().enumerate() {
+        let p = i * n;
+        let d = i * (n - 1);
+        deal_entry(f, &mut table[p..p + n], *v, &mask[d..]);
     }
 }
 
@@ -204,10 +174,9 @@ pub fn gather(f: u64, n: usize, table: &[u8], values: &mut [u8])
     requires table_len { length table.now ≡ length values.old * n }
     ensures { values.new ≡ gathered f n (length values.old) table.now }
 {
-    let mut p: usize = 0;
-    for i in 0..values.len() {
-        let e = p + n;
-        values[i] = sharing::sum(f, &table[p..e]);
-        p = e;
+    // stays: no `zip` with `chunks_exact`: once such a loop is over, a proof knows the length of the values and none of them.
+    for (i, v) in values.iter_mut().enumerate() {
+        let p = i * n;
+        *v = sharing::sum(f, &table[p..p + n]);
     }
 }

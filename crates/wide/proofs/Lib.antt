@@ -1,4 +1,3 @@
 pub mod Ready
-pub mod Calls
 pub mod Meaning
 pub mod Once

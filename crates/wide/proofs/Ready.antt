@@ -2,7 +2,7 @@
 -- Assumes nothing.
 use mathlib.Core.Bool.{true, false}
 use mathlib.Core.List.{List, [], ◌∷◌}
-use mathlib.Core.Path.{◌≡◌, refl, sym, ◌∙◌}
+use mathlib.Core.Path.{◌≡◌, sym, ◌∙◌}
 use Prim.Native.Nat.{ℕ, ◌+◌, ◌≤◌}
 use native.Mathlib.Decide.{ℕ_discrete}
 use native.Mathlib.Omega.{arith}
@@ -10,28 +10,29 @@ use lib.Dec.{eqb}
 use lib.ListN.{length}
 use borrow.Author.Tests.{not-false, eq-eqb, ne_eqb}
 use Rattle.field.specs.Field.{field_of}
+use Rattle.sharing.specs.Bounds.{most_rows}
 use Rattle.sharing.specs.Rules.{sum, blinded_value}
 use Rattle.sharing.specs.Lists.{Below}
 use Rattle.table.specs.Layout.{Inside, entry}
 use Rattle.table.specs.Costs.{scale_nonzero}
 use Rattle.table.specs.Values.{value}
 use Rattle.table.proofs.Values.{pivot_zero, zero_pivot_lem}
-use Rattle.course.specs.declared.Step.TheVariants.{Mix, Check, Scale, Clear, Open, Lift}
+use Rattle.course.specs.declared.Step.{Step}
+use Rattle.course.specs.declared.Step.TheVariants.{Scale}
 use Rattle.course.specs.StepList.{cost_in}
 use Rattle.pattern.specs.declared.WideOrder.{WideOrder}
-use Rattle.pattern.specs.declared.WidePlace.{WidePlace}
-use Rattle.pattern.specs.declared.WidePlace.TheVariants.{At, Short, Done}
+use Rattle.pattern.specs.declared.WidePlace.TheVariants.{At}
 use Rattle.pattern.specs.declared.WideProgress.{WideProgress}
 use Rattle.pattern.specs.Pivots.{listed}
 use Rattle.pattern.specs.PatternList.{Sizes, cost_of, nonzero_cost, wanted}
 use Rattle.pattern.specs.Next.{kept, stands, placed, counted}
+use Rattle.pattern.proofs.Placed.{Places, placed_at}
 use Rattle.course.proofs.Within.{both}
 use Rattle.verdict.specs.Told.{passed, refuse, ◌or◌}
 use Rattle.verdict.specs.Refusals.{differs, no2, no3, no4, no5, no6, no9, no21, buffers, exactly}
 use Rattle.verdict.proofs.Told.{left, right, not_then}
 use Rattle.verdict.proofs.Passes.{two-says, three-says, twenty_one_says, same, six_says, nine_says, Buffers, buffered, Exactly, exactly-says, AtLeast, at_least_says}
-use Rattle.solver.specs.Refusals.{lift_refused}
-use Rattle.wide.specs.WideRefusals.{no1, sizes, whole_table, table_rows, solve_order, cost_at, ended, no10, no19, no11, no20, scale_refused, no12, standing, wanted_order, placing, step_order}
+use Rattle.wide.specs.WideRefusals.{no1, sizes, whole_table, table_rows, solve_order, cost_at, ended, no10, no19, no11, no20, no12, standing, wanted_order, placing, step_order}
 
 -- 1, 2, 3 and 21 passed
 pub sized : (o : WideOrder) → sizes o ≡ passed → Sizes o
@@ -95,9 +96,14 @@ unfolding wanted_order
 wanting p e = (sized p.order (left (sizes p.order) _ e), standing-says p (right (sizes p.order) _ e))
 
 -- the two tests of 10
-pub tests : (p : WideProgress) → placed p ≡ true → (kept p.order p.pivots ≡ true) × (stands p.order (listed p.pivots) p.place ≡ true)
+pub kept_and_stands : (p : WideProgress) → placed p ≡ true → (kept p.order p.pivots ≡ true) × (stands p.order (listed p.pivots) p.place ≡ true)
 unfolding placed
-tests p h = both (kept p.order p.pivots) (stands p.order (listed p.pivots) p.place) h
+kept_and_stands p h = both (kept p.order p.pivots) (stands p.order (listed p.pivots) p.place) h
+
+-- where the step of a record's place works
+pub works_at : (p : WideProgress) (s : Step) → Sizes p.order → length p.pivots.columns ≡ most_rows → placed p ≡ true → p.place ≡ At s
+    → Places p.order (listed p.pivots) s
+works_at p s z slots h at = let t = kept_and_stands p h in placed_at p.order z p.pivots slots t.0 s (rw at at t.1)
 
 -- 4, 5, 10, 19 and 11 passed
 pub record Placed (p : WideProgress) (table solution : ℕ) : Type 0 where
@@ -147,29 +153,6 @@ both_zero a b there back = elim (ℕ_discrete a 0) [
   | yes e ↦ eq-eqb a 0 e ∙ sym (eq-eqb b 0 (there e))
   | no n ↦ ne_eqb a 0 n ∙ sym (ne_eqb b 0 (λ e. n (back e)))
 ]
-
--- a place that is no Scale has no pivot, and one that is no Lift reads no byte of the solution
-pub no_pivot : (o : WideOrder) (ps : List ℕ) (place : WidePlace) (t : List ℕ) → ((j : ℕ) → place ≡ At (Scale j) → ⊥) → passed ≡ no12 o ps place t
-unfolding no12 scale_refused
-no_pivot o ps (At (Mix j k)) t n = refl
-no_pivot o ps (At (Check j)) t n = refl
-no_pivot o ps (At (Scale j)) t n = absurd (n j refl)
-no_pivot o ps (At (Clear j k)) t n = refl
-no_pivot o ps (At (Open j)) t n = refl
-no_pivot o ps (At (Lift j)) t n = refl
-no_pivot o ps Short t n = refl
-no_pivot o ps Done t n = refl
-
-pub no_lift : (o : WideOrder) (place : WidePlace) (x : List ℕ) → ((j : ℕ) → place ≡ At (Lift j) → ⊥) → passed ≡ no20 o place x
-unfolding no20 lift_refused
-no_lift o (At (Mix j k)) x n = refl
-no_lift o (At (Check j)) x n = refl
-no_lift o (At (Scale j)) x n = refl
-no_lift o (At (Clear j k)) x n = refl
-no_lift o (At (Open j)) x n = refl
-no_lift o (At (Lift j)) x n = absurd (n j refl)
-no_lift o Short x n = refl
-no_lift o Done x n = refl
 
 -- what an Inversion opens tells whether the pivot of a Scale is 0
 pub pivot_told : (o : WideOrder) (r j : ℕ) (t mask nonzero : List ℕ) → Inside o.rows (o.columns + 1) r j → length t ≡ whole_table o

@@ -1,33 +1,39 @@
 // The checks of the wide calls: the order of each. Nothing lent is written.
-ghost use Rattle.std.specs.Prelude.{◌≡◌, true, ◌+◌, ◌≤◌, length};
+// stays: solver's twin. A trait needs each part of R-8's orders and 01's as a ghost member, with a law of what its pass gives, and would share two bodies.
+ghost use Rattle.std.specs.Prelude.{◌≡◌, true, ◌≤◌, length};
 ghost use Rattle.pattern.specs.Pivots.{listed};
-ghost use Rattle.pattern.specs.PatternList.{Sizes, wanted};
-ghost use Rattle.pattern.specs.Next.{kept, stands, placed};
-ghost use Rattle.verdict.specs.Told.{passed, ◌or◌};
-ghost use Rattle.verdict.specs.Refusals.{no9, buffers, exactly, at_least};
+ghost use Rattle.pattern.specs.PatternList.{Sizes};
+ghost use Rattle.pattern.specs.Next.{placed};
+ghost use Rattle.verdict.specs.Told.{passed};
+ghost use Rattle.verdict.specs.Refusals.{no9};
 ghost use Rattle.verdict.specs.Code.Verdicts.{told};
 ghost use Rattle.verdict.specs.Cells.{NonEmpty};
-ghost use Rattle.wide.specs.WideRefusals.{no1, sizes, whole_table, table_rows, solve_order, cost_at, ended, no20, no12, standing, wanted_order, placing, step_order};
+ghost use Rattle.wide.specs.WideRefusals.{no1, sizes, whole_table, table_rows, solve_order, cost_at, no20, no12, standing, wanted_order, step_order};
 
 use course::{Draws, Step};
-use pattern::{Pivots, WideOrder, WidePlace, WideProgress};
-use verdict::{Cell, Refusal, Rows, Verdict};
+use pattern::{WideOrder, WidePlace, WideProgress};
+use table::Shape;
+use verdict::{Cell, Refusal, Rows};
 
-fn no1(field: u64) -> Verdict
+#[tactic(auto, unfolding(crate::specs::WideRefusals::no1))]
+fn no1(field: u64) -> Result<(), Refusal>
     ensures { told result ≡ no1 field }
 {
     verdict::refuse_if(field != 16, Refusal::Field(field))
 }
 
 // 1, 2, 3, 21
-pub fn sizes(o: WideOrder) -> Verdict
+pub fn sizes(o: WideOrder) -> Result<(), Refusal>
     ensures { told result ≡ sizes o }
 {
-    let v = verdict::or_else(no1(o.field), verdict::no2(o.shares));
-    let v = verdict::or_else(v, verdict::no3(o.rows));
-    verdict::or_else(v, verdict::no21(o.rows, o.columns))
+    no1(o.field)?;
+    verdict::no2(o.shares)?;
+    verdict::no3(o.rows)?;
+    verdict::no21(o.rows, o.columns)
 }
 
+// stays: Sizes and placed are asked as pattern and wide_walk ask them, of records with public fields; a type with an invariant would be unpacked at each call.
+#[tactic(auto, unfolding(table::specs::Layout::table_bytes))]
 fn whole_table(o: WideOrder) -> usize
     requires { Sizes o }
     ensures { result ≡ whole_table o }
@@ -45,102 +51,63 @@ fn table_rows(o: WideOrder) -> Rows
     }
 }
 
-fn solve_lent(o: WideOrder, table: &[u8], solution: usize, mask: usize, nonzero: &[u8]) -> Verdict
-    requires { Sizes o }
-    ensures { told result ≡ buffers o.field (table_rows o) (whole_table o) table.now o.columns solution or at_least o.field (wanted o).mask (wanted o).nonzero mask nonzero.now }
+// 1, 2, 3, 21, 4 to 9
+pub fn solve(
+    o: WideOrder,
+    table: &[u8],
+    solution: usize,
+    mask: usize,
+    nonzero: &[u8],
+) -> Result<(), Refusal>
+    ensures { told result ≡ solve_order o table.now solution mask nonzero.now }
 {
-    let rows = table_rows(o);
-    let v = verdict::buffers(
+    sizes(o)?;
+    verdict::buffers(
         o.field,
-        rows,
+        table_rows(o),
         whole_table(o),
         table,
         o.columns as usize,
         solution,
-    );
-    let Verdict::Pass = v else {
-        return v;
-    };
+    )?;
     let d = pattern::wanted(o);
     verdict::at_least(o.field, d.mask, d.nonzero, mask, nonzero)
 }
 
-// 1, 2, 3, 21, 4 to 9
-pub fn solve(o: WideOrder, table: &[u8], solution: usize, mask: usize, nonzero: &[u8]) -> Verdict
-    ensures { told result ≡ solve_order o table.now solution mask nonzero.now }
-{
-    let v = sizes(o);
-    let Verdict::Pass = v else {
-        return v;
-    };
-    solve_lent(o, table, solution, mask, nonzero)
-}
-
-fn is_ended(p: WidePlace) -> bool
-    ensures { result ≡ ended p }
-{
-    match p {
-        WidePlace::At(_) => false,
-        WidePlace::Short => true,
-        WidePlace::Done => true,
-    }
-}
-
 // 10, 19, 11
-fn standing(p: WideProgress) -> Verdict
+fn standing(p: WideProgress) -> Result<(), Refusal>
     requires { Sizes p.order }
     ensures { told result ≡ standing p }
 {
-    let place = p.place;
     if !p.is_placed() {
-        return Verdict::Refuse(Refusal::OffList);
+        return Err(Refusal::OffList);
     }
     if !pattern::is_counted(p) {
-        return Verdict::Refuse(Refusal::Counters);
+        return Err(Refusal::Counters);
     }
-    verdict::refuse_if(is_ended(place), Refusal::Ended)
+    match p.place {
+        WidePlace::At(_) => Ok(()),
+        WidePlace::Short | WidePlace::Done => Err(Refusal::Ended),
+    }
 }
 
 // 1, 2, 3, 21, 10, 19, 11
-pub fn wanted(p: WideProgress) -> Verdict
+pub fn wanted(p: WideProgress) -> Result<(), Refusal>
     ensures { told result ≡ wanted_order p }
 {
-    let v = sizes(p.order);
-    let Verdict::Pass = v else {
-        return v;
-    };
+    sizes(p.order)?;
     standing(p)
 }
 
-// 4, 5, 10, 19, 11
-fn placing(p: WideProgress, table: usize, solution: usize) -> Verdict
-    requires { Sizes p.order }
-    ensures { told result ≡ placing p table solution }
+// The draws of the record's place.
+pub fn cost_at(p: WideProgress) -> Draws
+    requires sizes { Sizes p.order }
+    requires p_value { placed p ≡ true }
+    ensures { result ≡ cost_at p.order p.place }
 {
-    let o = p.order;
-    let v = verdict::or_else(
-        verdict::no4(whole_table(o), table),
-        verdict::no5(o.columns as usize, solution),
-    );
-    let Verdict::Pass = v else {
-        return v;
-    };
-    standing(p)
-}
-
-// The draws of a place.
-pub fn cost_at(o: WideOrder, v: Pivots, p: WidePlace) -> Draws
-    requires sizes { Sizes o }
-    requires v_value { (kept o v ≡ true) × (stands o (listed v) p ≡ true) }
-    ensures { result ≡ cost_at o p }
-{
-    match p {
-        WidePlace::At(s) => pattern::cost(o, s),
-        WidePlace::Short => Draws {
-            mask: 0,
-            nonzero: 0,
-        },
-        WidePlace::Done => Draws {
+    match p.place {
+        WidePlace::At(s) => pattern::cost(p.order, s),
+        WidePlace::Short | WidePlace::Done => Draws {
             mask: 0,
             nonzero: 0,
         },
@@ -148,49 +115,43 @@ pub fn cost_at(o: WideOrder, v: Pivots, p: WidePlace) -> Draws
 }
 
 // 20: whether the byte that a Lift reads is no element.
-fn no20(o: WideOrder, v: Pivots, p: WidePlace, solution: &[u8]) -> Verdict
-    requires sizes { Sizes o }
-    requires v_value { (kept o v ≡ true) × (stands o (listed v) p ≡ true) }
-    requires solution_len { length solution.now ≡ o.columns }
-    ensures { told result ≡ no20 o p solution.now }
+fn no20(p: WideProgress, solution: &[u8]) -> Result<(), Refusal>
+    requires sizes { Sizes p.order }
+    requires p_value { placed p ≡ true }
+    requires solution_len { length solution.now ≡ p.order.columns }
+    ensures { told result ≡ no20 p.order p.place solution.now }
 {
-    let WidePlace::At(s) = p else {
-        return Verdict::Pass;
-    };
-    let Step::Lift(j) = s else {
-        return Verdict::Pass;
+    let WidePlace::At(Step::Lift(j)) = p.place else {
+        return Ok(());
     };
     let x = solution[j as usize - 1];
-    verdict::refuse_if(verdict::is_too_large(o.field, x), Refusal::LiftByte(j))
+    verdict::refuse_if(
+        verdict::is_too_large(p.order.field, x),
+        Refusal::LiftByte(j),
+    )
 }
 
 // 12: whether the pivot of a Scale is 0, by opening it blinded, on copies: the shares are never summed bare.
-fn no12(o: WideOrder, v: Pivots, p: WidePlace, table: &[u8], mask: &[u8], nonzero: &[u8]) -> Verdict
-    requires sizes { Sizes o }
-    requires v_value { (kept o v ≡ true) × (stands o (listed v) p ≡ true) }
-    requires table_len { length table.now ≡ whole_table o }
-    requires p_in_bounds { ((cost_at o p).mask ≤ length mask.now) × ((cost_at o p).nonzero ≤ length nonzero.now) }
-    requires nonzero_value { no9 o.field nonzero.now ≡ passed }
-    ensures { told result ≡ no12 o (listed v) p table.now }
+fn no12(p: WideProgress, table: &[u8], mask: &[u8], nonzero: &[u8]) -> Result<(), Refusal>
+    requires sizes { Sizes p.order }
+    requires p_value { placed p ≡ true }
+    requires table_len { length table.now ≡ whole_table p.order }
+    requires p_in_bounds { ((cost_at p.order p.place).mask ≤ length mask.now) × ((cost_at p.order p.place).nonzero ≤ length nonzero.now) }
+    requires nonzero_value { no9 p.order.field nonzero.now ≡ passed }
+    ensures { told result ≡ no12 p.order (listed p.pivots) p.place table.now }
 {
-    let WidePlace::At(s) = p else {
-        return Verdict::Pass;
+    let WidePlace::At(Step::Scale(j)) = p.place else {
+        return Ok(());
     };
-    let Step::Scale(j) = s else {
-        return Verdict::Pass;
+    let o = p.order;
+    let r = pattern::row_of(p.pivots, Step::Scale(j));
+    let shape = Shape {
+        field: o.field,
+        shares: o.shares as usize,
+        rows: o.rows as usize,
+        columns: o.columns as usize + 1,
     };
-    let r = pattern::row_of(v, s);
-    let zero = table::opens_zero(
-        o.field,
-        o.shares as usize,
-        o.rows as usize,
-        o.columns as usize + 1,
-        table,
-        r,
-        j as usize,
-        nonzero,
-        mask,
-    );
+    let zero = table::opens_zero(shape, table, r, j as usize, nonzero, mask);
     verdict::refuse_if(
         zero,
         Refusal::ZeroPivot(Cell {
@@ -202,29 +163,23 @@ fn no12(o: WideOrder, v: Pivots, p: WidePlace, table: &[u8], mask: &[u8], nonzer
 }
 
 // 1, 2, 3, 21, 4, 5, 10, 19, 11, 6, 7, 14, 8, 15, 9, 20, 12
-pub fn step(p: WideProgress, table: &[u8], solution: &[u8], mask: &[u8], nonzero: &[u8]) -> Verdict
+pub fn step(
+    p: WideProgress,
+    table: &[u8],
+    solution: &[u8],
+    mask: &[u8],
+    nonzero: &[u8],
+) -> Result<(), Refusal>
     ensures { told result ≡ step_order p table.now solution.now (length mask.now) nonzero.now }
 {
     let o = p.order;
-    let pivots = p.pivots;
-    let place = p.place;
-    let v = sizes(o);
-    let Verdict::Pass = v else {
-        return v;
-    };
-    let w = placing(p, table.len(), solution.len());
-    let Verdict::Pass = w else {
-        return w;
-    };
-    let x = verdict::no6(o.field, table_rows(o), table);
-    let Verdict::Pass = x else {
-        return x;
-    };
-    let d = cost_at(o, pivots, place);
-    let y = verdict::exactly(o.field, d.mask, d.nonzero, mask.len(), nonzero);
-    let Verdict::Pass = y else {
-        return y;
-    };
-    let z = no20(o, pivots, place, solution);
-    verdict::or_else(z, no12(o, pivots, place, table, mask, nonzero))
+    sizes(o)?;
+    verdict::no4(whole_table(o), table.len())?;
+    verdict::no5(o.columns as usize, solution.len())?;
+    standing(p)?;
+    verdict::no6(o.field, table_rows(o), table)?;
+    let d = cost_at(p);
+    verdict::exactly(o.field, d.mask, d.nonzero, mask.len(), nonzero)?;
+    no20(p, solution)?;
+    no12(p, table, mask, nonzero)
 }

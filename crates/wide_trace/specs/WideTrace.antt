@@ -23,7 +23,8 @@ use Rattle.wide_walk.specs.WideWalk.{opened, acted}
 use Rattle.verdict.specs.Told.{Line, passed}
 use Rattle.verdict.specs.Calls.{refuses, gives, Outcome}
 use Rattle.wide.specs.WideRefusals.{whole_table, no20}
-use Rattle.wide.specs.WideCalls.{Stride, tells, Lent, lent, step_call}
+use Rattle.wide.specs.declared.WideStride.{WideStride}
+use Rattle.wide.specs.WideCalls.{tells, Lent, lent, step_call}
 use Rattle.trace.specs.Driving.{Beside, accepts, uses, NoneZero, drive_by, driven_by}
 use Rattle.trace.specs.Numbers.{Among}
 
@@ -44,10 +45,10 @@ abbrev pub lends : Host → Held
 lends h = held h.table h.solution
 
 -- one step call
-unfoldable pub called : Host → Beside → Outcome Stride Lent
+unfoldable pub called : Host → Beside → Outcome WideStride Lent
 called h c = step_call h.progress (lends h) c.mask c.nonzero
 
-abbrev pub noted : Host → Beside → Outcome Stride Lent → Host
+abbrev pub noted : Host → Beside → Outcome WideStride Lent → Host
 noted h c r =
     record {
       progress = r.left.progress;

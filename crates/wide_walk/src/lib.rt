@@ -12,9 +12,10 @@ ghost use Rattle.wide_walk.specs.WideWalk.{opened, acted, leaves, solved};
 
 use course::{Counts, Step};
 use pattern::{Pivots, WideOrder, WidePlace, WideProgress};
+use table::Shape;
 
 // How a wide solve ends, with the steps, mask draws and nonzero draws taken.
-#[derive(Clone, Copy)]
+#[derive(Clone, Copy, Debug, PartialEq, Eq)]
 pub enum WideEnding {
     Solved(Counts),
     Short(Counts),
@@ -38,18 +39,13 @@ pub fn act(
     ensures solution_after { held table.new solution.new ≡ acted o (listed v) s mask.now nonzero.now (held table.old solution.old) }
 {
     let r = pattern::row_of(v, s);
-    walk::perform(
-        o.field,
-        o.shares as usize,
-        o.rows as usize,
-        o.columns as usize + 1,
-        r,
-        s,
-        table,
-        solution,
-        mask,
-        nonzero,
-    )
+    let shape = Shape {
+        field: o.field,
+        shares: o.shares as usize,
+        rows: o.rows as usize,
+        columns: o.columns as usize + 1,
+    };
+    walk::perform(shape, r, s, table, solution, mask, nonzero)
 }
 
 // The whole solve: the unknowns of columns that are passed over, and on short all of them, are 0 from the start.
@@ -67,32 +63,27 @@ pub fn solve(
 {
     sharing::wipe(solution);
     let mut p = WideProgress::start(o);
-    let mut steps: usize = 0;
-    loop {
-        let q = p.place;
-        let v = p.pivots;
-        let at = p.mask as usize;
-        let at2 = p.nonzero as usize;
-        match q {
-            WidePlace::At(s) => {
-                let x = act(o, v, s, table, solution, &mask[at..], &nonzero[at2..]);
-                p = p.next(s, x);
-                steps += 1;
-            }
-            WidePlace::Short => {
-                return WideEnding::Short(Counts {
-                    steps: steps,
-                    mask: at,
-                    nonzero: at2,
-                });
-            }
-            WidePlace::Done => {
-                return WideEnding::Solved(Counts {
-                    steps: steps,
-                    mask: at,
-                    nonzero: at2,
-                });
-            }
-        }
+    let mut steps = 0;
+    while let WidePlace::At(s) = p.place {
+        let x = act(
+            o,
+            p.pivots,
+            s,
+            table,
+            solution,
+            &mask[p.mask as usize..],
+            &nonzero[p.nonzero as usize..],
+        );
+        p = p.next(s, x);
+        steps += 1;
+    }
+    let counts = Counts {
+        steps,
+        mask: p.mask as usize,
+        nonzero: p.nonzero as usize,
+    };
+    match p.place {
+        WidePlace::Short => WideEnding::Short(counts),
+        _ => WideEnding::Solved(counts),
     }
 }

@@ -29,8 +29,8 @@ pub fn entry(n: usize, row: &[u64], e: usize, out: &mut [u8])
 {
     let g = e / 8 * n;
     let shift = lane_shift(e);
-    for s in 0..n {
-        out[s] = byte_of(row[g + s], shift);
+    for (s, share) in out.iter_mut().enumerate() {
+        *share = byte_of(row[g + s], shift);
     }
 }
 
@@ -41,10 +41,10 @@ pub fn put_entry(n: usize, row: &mut [u64], e: usize, v: &[u8])
 {
     let g = e / 8 * n;
     let shift = lane_shift(e);
-    for s in 0..n {
+    for (s, share) in v.iter().enumerate() {
         let x = row[g + s];
-        let change = byte_of(x, shift) ^ v[s];
-        row[g + s] = x ^ ((change as u64) << shift);
+        let change = byte_of(x, shift) ^ *share;
+        row[g + s] = x ^ (u64::from(change) << shift);
     }
 }
 
@@ -53,12 +53,10 @@ pub fn take_row(n: usize, columns: usize, bytes: &mut [u8], row: &[u64])
     requires { (2 ≤ n) × (n ≤ 4) × (columns ≤ most_columns) × (length bytes.old ≡ columns * n) × (words_of columns * n ≤ length row.now) }
     ensures { bytes.new ≡ bytes_of n columns row.now }
 {
-    let mut e = columns;
-    let mut p: usize = 0;
-    for u in 0..columns {
-        e -= 1;
+    // stays: the bytes are lent column by column, and after chunks_mut a proof knows no element of them
+    for e in (0..columns).rev() {
+        let p = (columns - 1 - e) * n;
         entry(n, row, e, &mut bytes[p..p + n]);
-        p += n;
     }
 }
 
@@ -67,11 +65,8 @@ pub fn give_row(n: usize, columns: usize, row: &mut [u64], bytes: &[u8])
     requires { (2 ≤ n) × (n ≤ 4) × (columns ≤ most_columns) × (length bytes.now ≡ columns * n) × (words_of columns * n ≤ length row.old) }
     ensures { PutBytes n columns bytes.now row.old row.new }
 {
-    let mut e = columns;
-    let mut p: usize = 0;
-    for u in 0..columns {
-        e -= 1;
+    for e in (0..columns).rev() {
+        let p = (columns - 1 - e) * n;
         put_entry(n, row, e, &bytes[p..p + n]);
-        p += n;
     }
 }

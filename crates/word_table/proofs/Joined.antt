@@ -42,30 +42,30 @@ module _ (f n w rows : ℕ) (words : List ℕ) {a b j : ℕ} (A : Inside rows w 
   last = columns_from w j
 
   -- by what the callees left
-  pub joined-table : (q bits : ℕ) (ds factor masks other z new : List ℕ) → q ≡ (field_of f).q → length new ≡ row_words n w → length factor ≡ n → Told f factor bits
-      → Masked bits n factor masks → Prepared bits n last (row_at n w b words) other → Dealt q (pairs n) last ds z
+  pub joined-table : (bits : ℕ) (ds factor masks other z new : List ℕ) → length new ≡ row_words n w → length factor ≡ n → Told f factor bits
+      → Masked bits n factor masks → Prepared bits n last (row_at n w b words) other → Dealt (field_of f).q (pairs n) last ds z
       → JoinedWords bits n (words_of last) masks other z (row_at n w a words) new
       → table_of n w rows (put (row_words n w) ((a - 1) * row_words n w) new words) ≡ join_rows (field_of f) false n w a b j factor ds (table_of n w rows words)
   unfolding join_rows
-  joined-table q bits ds factor masks other z new hq ln lf told M O D W =
+  joined-table bits ds factor masks other z new ln lf told M O D W =
       let J : Joined (field_of f) n last ds factor (row_at n w b words) (row_at n w a words) new =
-      join_law (binary_of f) q bits n last ds factor masks (row_at n w b words) other z (row_at n w a words) new hq W D O M lf
-      (λ e s h hs. rw hq (elements f n w rows words A small e s h hs)) (λ e s h hs. rw hq (elements f n w rows words B small e s h hs)) (λ i h. told-taken told i) in
+      join_law (binary_of f) bits n last ds factor masks (row_at n w b words) other z (row_at n w a words) new W D O M lf
+      (elements f n w rows words A small) (elements f n w rows words B small) (λ i h. told-taken told i) in
       table-from n w rows words A new ln fits J.beyond
       ∙ ap (λ (x : List ℕ). put_row n w a j x (table_of n w rows words))
       (joined_bytes (binary_of f) false n last ds factor (row_at n w b words) (row_at n w a words) new J
       ∙ ap₂ (join_row (field_of f) false n last ds factor) (sym (row_from_of n w rows words B)) (sym (row_from_of n w rows words A)))
 
   -- and by what they were lent
-  pub joined-lent : (q bits size : ℕ) (ds factor masks other z new : List ℕ) → q ≡ (field_of f).q → size ≡ row_words n w → length new ≡ size → length factor ≡ n → Told f factor bits
-      → Masked bits n factor masks → Prepared bits n last (take ((b - 1) * size + size - (b - 1) * size) (drop ((b - 1) * size) words)) other → Dealt q (pairs n) last ds z
+  pub joined-lent : (bits size : ℕ) (ds factor masks other z new : List ℕ) → size ≡ row_words n w → length new ≡ size → length factor ≡ n → Told f factor bits
+      → Masked bits n factor masks → Prepared bits n last (take ((b - 1) * size + size - (b - 1) * size) (drop ((b - 1) * size) words)) other → Dealt (field_of f).q (pairs n) last ds z
       → JoinedWords bits n (words_of last) masks other z (take ((a - 1) * size + size - (a - 1) * size) (drop ((a - 1) * size) words)) new
       → table_of n w rows (take ((a - 1) * size) words ++ (new ++ drop ((a - 1) * size + size - (a - 1) * size) (drop ((a - 1) * size) words)))
       ≡ join_rows (field_of f) false n w a b j factor ds (table_of n w rows words)
   unfolding row_at
-  joined-lent q bits size ds factor masks other z new hq e ln lf told M O D W =
+  joined-lent bits size ds factor masks other z new e ln lf told M O D W =
       rw (put-lent size ((a - 1) * size) new words)
-      (rw e (joined-table q bits ds factor masks other z new hq (ln ∙ e) lf told M
+      (rw e (joined-table bits ds factor masks other z new (ln ∙ e) lf told M
       (rw e at (rw (part-lent size ((b - 1) * size) words) at O)) D (rw e at (rw (part-lent size ((a - 1) * size) words) at W))))
 
 -- taken from or added to, a row of a binary field is the same

@@ -1,11 +1,12 @@
 -- The sizes of a table in words are small, and its rows lie within it.
 -- Assumes nothing.
 use mathlib.Core.Path.{◌≡◌, ◌∙◌}
-use Prim.Native.Nat.{ℕ, ◌+◌, ◌*◌, ◌/◌, ◌<◌, ◌≤◌}
+use Prim.Native.Nat.{ℕ, ◌+◌, ◌-◌, ◌*◌, ◌/◌, ◌<◌, ◌≤◌}
 use native.Mathlib.Omega.{arith}
 use native.Mathlib.Nat.{mul-le-mul, mul_assoc}
 use Rattle.sharing.specs.Bounds.{most_columns}
-use Rattle.table.specs.Layout.{table_bytes}
+use Rattle.table.specs.declared.Shape.{Shape}
+use Rattle.table.specs.Layout.{table_bytes, Inside}
 use Rattle.table.proofs.Cells.{column_in}
 use Rattle.word.specs.Rows.{words_of}
 use Rattle.word_table.specs.Table.{row_words}
@@ -19,26 +20,23 @@ row_small {n} {w} a b = mul-le-mul {n₁ = words_of w} {m₁ = n} {n₂ = 19} {m
 pub bytes_small : {n w : ℕ} → n ≤ 4 → w ≤ most_columns → w * n ≤ 580
 bytes_small {n} {w} a b = mul-le-mul {n₁ = w} {m₁ = n} {n₂ = 145} {m₂ = 4} b a
 
--- a row of k words, or bytes, among rows of them
-pub start_small : {i rows k most : ℕ} → i < rows → rows ≤ 96 → k ≤ most → i * k + k ≤ 96 * most
-start_small {i} {rows} {k} {most} a b c = omega (arith, column_in k a, mul-le-mul {n₁ = rows} {m₁ = k} {n₂ = 96} {m₂ = most} b c)
-
 pub table-rows : (n rows w : ℕ) → table_bytes n rows w ≡ rows * (w * n)
 unfolding table_bytes
 table-rows n rows w = mul_assoc rows w n
 
--- row r of a table in words, from 1: it lies within the words, and not far in
-pub row_within : (n w rows : ℕ) {size have i : ℕ} → n ≤ 4 → w ≤ most_columns → rows ≤ 96 → size ≡ row_words n w → rows * row_words n w ≤ have → i < rows
-    → (i * size + size ≤ have) × (i * size + size ≤ 7296)
-row_within n w rows {size} {have} {i} a b h e f l =
-    rw e (omega (arith, column_in (row_words n w) l), start_small l h (row_small {n = n} {w = w} a b))
+-- row i of a table in words, from 0, lies within the words
+pub row_in : (s : Shape) {size have i : ℕ} → size ≡ row_words s.shares s.columns → s.rows * row_words s.shares s.columns ≤ have → i < s.rows → i * size + size ≤ have
+row_in s {size} {have} {i} e f l = rw e (omega (arith, column_in (row_words s.shares s.columns) l))
+
+-- and row r, from 1
+pub row_within : (s : Shape) {size have r j : ℕ} → size ≡ row_words s.shares s.columns → s.rows * row_words s.shares s.columns ≤ have → Inside s.rows s.columns r j
+    → (r - 1) * size + size ≤ have
+row_within s e f P = row_in s e f (omega (arith, P.row_low, P.row_high))
 
 -- what stands e columns before the last of w is in a word of the row
 pub entry_within : (n w e : ℕ) → e < w → e / 8 * n + n ≤ row_words n w
 entry_within n w e h = column_in n {u = e / 8} {columns = words_of w} (omega arith)
 
 -- and so as bytes
-pub bytes_within : (n w rows : ℕ) {have i : ℕ} → n ≤ 4 → w ≤ most_columns → rows ≤ 96 → have ≡ table_bytes n rows w → i < rows
-    → (i * (w * n) + w * n ≤ have) × (i * (w * n) + w * n ≤ 55680)
-bytes_within n w rows {have} {i} a b h e l =
-    (omega (arith, e ∙ table-rows n rows w, column_in (w * n) l), start_small l h (bytes_small {n = n} {w = w} a b))
+pub bytes_in : (s : Shape) {have i : ℕ} → have ≡ table_bytes s.shares s.rows s.columns → i < s.rows → i * (s.columns * s.shares) + s.columns * s.shares ≤ have
+bytes_in s {have} {i} e l = omega (arith, e ∙ table-rows s.shares s.rows s.columns, column_in (s.columns * s.shares) l)

@@ -7,31 +7,24 @@ use Prim.Native.Nat.{ℕ, zero, suc, ◌*◌, ◌≤◌}
 use mathlib.Core.List.{List}
 use native.Mathlib.Omega.{arith}
 use native.Mathlib.Nat.{mul-le-mul_right, mul-le-mul, mul_assoc}
-use lib.Dec.{eqb, lit≤}
+use lib.Dec.{lit≤}
 use lib.ListN.{length, get_or}
-use Rattle.field.specs.Field.{F16, F256, field_of, pick}
+use Rattle.field.specs.Field.{pick}
 use Rattle.field.proofs.Fields.{binary_of}
 use Rattle.sharing.specs.Run.{pairs}
 use Rattle.word.specs.Rows.{words_of}
-use Rattle.plane.specs.Code.Words.{Widths}
 use Rattle.plane.proofs.Choosing.{Taken}
+use Rattle.table.specs.declared.Shape.{Shape}
+use Rattle.word_table.specs.declared.Workspace.{Workspace}
 use Rattle.word_table.specs.Table.{row_words, Room, Told, by_all, by_one}
 
-field_widths : (b : Bool) → Widths (pick b 4 8)
-field_widths true = inr (inl refl)
-field_widths false = inr (inr refl)
-
-pub told_widths : {f w : ℕ} {factor : List ℕ} → Told f factor w → Widths w
-told_widths {f} by_all = let B = binary_of f in rw B.has (field_widths B.sixteen)
-told_widths (by_one b) = inl refl
-
-between : (w : ℕ) → Widths w → (1 ≤ w) × (w ≤ 8)
-between w (inl e) = (omega arith, omega arith)
-between w (inr (inl e)) = (omega arith, omega arith)
-between w (inr (inr e)) = (omega arith, omega arith)
+field_widths : (b : Bool) → (1 ≤ pick b 4 8) × (pick b 4 8 ≤ 8)
+field_widths true = (lit≤ tt, lit≤ tt)
+field_widths false = (lit≤ tt, lit≤ tt)
 
 pub told_between : {f w : ℕ} {factor : List ℕ} → Told f factor w → (1 ≤ w) × (w ≤ 8)
-told_between {w = w} t = between w (told_widths t)
+told_between {f} by_all = let B = binary_of f in rw B.has (field_widths B.sixteen)
+told_between (by_one b) = (lit≤ tt, lit≤ tt)
 
 pub told-taken : {f w : ℕ} {factor : List ℕ} → Told f factor w → (i : ℕ) → Taken f w (get_or factor i 0)
 told-taken by_all i = inl refl
@@ -46,15 +39,6 @@ pairs_some (suc (suc (suc zero))) a b = (lit≤ tt, lit≤ tt, λ e. absurd (ome
 pairs_some (suc (suc (suc (suc zero)))) a b = (lit≤ tt, lit≤ tt, λ e. absurd (omega (arith, e)))
 pairs_some (suc (suc (suc (suc (suc n))))) a b = absurd (omega arith)
 
--- draws are dealt modulo the field's q
-pub order-of : (f : ℕ) → pick (eqb f 16) 16 256 ≡ (field_of f).q
-unfolding field_of F16 F256
-order-of f = by (eqb f 16)
-  where
-    by : (b : Bool) → pick b 16 256 ≡ (pick b F16 F256).q
-    by true = refl
-    by false = refl
-
 -- columns that are no more than w take no more room
 module _ (n w columns : ℕ) (l : columns ≤ w) where
   pub words_fewer : words_of columns ≤ words_of w
@@ -63,16 +47,20 @@ module _ (n w columns : ℕ) (l : columns ≤ w) where
   pub row_fewer : words_of columns * n ≤ row_words n w
   row_fewer = mul-le-mul_right n words_fewer
 
-  module _ {other draws products masks : List ℕ} (R : Room n w other draws products masks) where
-    pub draws_room : words_of columns * pairs n ≤ length draws
-    draws_room = omega (arith, mul-le-mul_right (pairs n) words_fewer, R.for_draws)
+module _ (s : Shape) (columns : ℕ) (l : columns ≤ s.columns) {lent : Workspace} (R : Room s lent) where
+  few : words_of columns ≤ words_of s.columns
+  few = words_fewer s.shares s.columns columns l
 
-    pub products_room : words_of columns * n * n ≤ length products
-    products_room = omega (arith, mul_assoc (words_of columns) n n, mul-le-mul_right (n * n) words_fewer, R.for_products)
+  pub draws_room : words_of columns * pairs s.shares ≤ length lent.draws.now
+  draws_room = omega (arith, mul-le-mul_right (pairs s.shares) few, R.for_draws)
 
-    module _ {b : ℕ} (h : b ≤ 8) where
-      pub other_room : words_of columns * n * b ≤ length other
-      other_room = omega (arith, mul-le-mul {n₁ = words_of columns * n} {m₁ = b} {n₂ = row_words n w} {m₂ = 8} row_fewer h, R.for_other)
+  pub products_room : words_of columns * s.shares * s.shares ≤ length lent.products.now
+  products_room = omega (arith, mul_assoc (words_of columns) s.shares s.shares, mul-le-mul_right (s.shares * s.shares) few, R.for_products)
 
-      pub masks_room : n * b ≤ length masks
-      masks_room = omega (arith, mul-le-mul {n₁ = n} {m₁ = b} {n₂ = n} {m₂ = 8} (omega arith) h, R.for_masks)
+  module _ {b : ℕ} (h : b ≤ 8) where
+    pub other_room : words_of columns * s.shares * b ≤ length lent.other.now
+    other_room =
+        omega (arith, mul-le-mul {n₁ = words_of columns * s.shares} {m₁ = b} {n₂ = row_words s.shares s.columns} {m₂ = 8} (row_fewer s.shares s.columns columns l) h, R.for_other)
+
+    pub masks_room : s.shares * b ≤ length lent.masks.now
+    masks_room = omega (arith, mul-le-mul {n₁ = s.shares} {m₁ = b} {n₂ = s.shares} {m₂ = 8} (omega arith) h, R.for_masks)

@@ -4,338 +4,238 @@
 
 #![tactic(auto)]
 
-ghost use Rattle.std.specs.Prelude.{false, ◌≡◌, ◌+◌, ◌-◌, ◌*◌, ◌<◌, ◌≤◌, length};
-ghost use Rattle.field.specs.Field.{field_of, bits};
+ghost use Rattle.std.specs.Prelude.{false, ◌≡◌, ◌*◌, ◌<◌, ◌≤◌, length};
+ghost use Rattle.field.specs.Field.{field_of};
 ghost use Rattle.sharing.specs.Run.{pairs};
 ghost use Rattle.sharing.specs.Lists.{Below};
 ghost use Rattle.sharing.specs.Bounds.{most_columns};
 ghost use Rattle.flag.specs.Flag.{zero_flag, flag_draws};
-ghost use Rattle.table.specs.Layout.{Bounded, Inside, table_bytes, columns_from, entry, put};
+ghost use Rattle.table.specs.Layout.{Shaped, Bounded, Inside, columns_from, entry};
 ghost use Rattle.table.specs.Steps.{join_rows, mix, check, scale, clear};
 ghost use Rattle.table.specs.Costs.{mix_cost, check_cost, scale_cost, scale_nonzero, clear_cost};
 ghost use Rattle.word.specs.Rows.{words_of, bytes_of, PutBytes};
 ghost use Rattle.word_table.specs.Code.Scaling.{scale_bytes};
-ghost use Rattle.word_table.specs.Table.{row_words, table_of, LoadedRow, store_turn, Room, Told};
+ghost use Rattle.word_table.specs.Table.{row_words, table_in, Worded, Room, Told};
 
-// The words of a row of w columns.
-fn row_words(n: usize, w: usize) -> usize
-    requires { (n ≤ 4) × (w ≤ most_columns) }
-    ensures { (result ≡ row_words n w) × (result ≤ 76) }
-{
-    (w + 7) / 8 * n
-}
+use table::Shape;
 
-// Turn r of load.
-fn load_row(n: usize, rows: usize, w: usize, words: &mut [u64], table: &[u8], r: usize)
-    requires bounded { Bounded n rows w }
-    requires le_w { (1 ≤ w) × (r < rows) × (length table.now ≡ table_bytes n rows w) × (rows * row_words n w ≤ length words.old) }
-    ensures { LoadedRow n w r table.now words.old words.new }
+// The words of a row.
+fn row_words(shape: Shape) -> usize
+    requires { (shape.shares ≤ 4) × (shape.columns ≤ most_columns) }
+    ensures { (result ≡ row_words shape.shares shape.columns) × (result ≤ 76) }
 {
-    let size = row_words(n, w);
-    let len = w * n;
-    let a = r * size;
-    let o = r * len;
-    dealing::deal(false, n, w, &mut words[a..a + size], &table[o..o + len]);
+    (shape.columns + 7) / 8 * shape.shares
 }
 
 // A table of bytes into words.
-pub fn load(n: usize, rows: usize, w: usize, words: &mut [u64], table: &[u8])
-    requires bounded { Bounded n rows w }
-    requires le_w { (1 ≤ w) × (length table.now ≡ table_bytes n rows w) × (rows * row_words n w ≤ length words.old) }
-    ensures { table_of n w rows words.new ≡ table.now }
+pub fn load(shape: Shape, words: &mut [u64], table: &[u8])
+    requires some { 1 ≤ shape.columns }
+    requires shaped { Shaped shape table.now }
+    requires worded { Worded shape words.old }
+    ensures { table_in shape words.new ≡ table.now }
 {
-    for r in 0..rows {
-        load_row(n, rows, w, words, table, r);
+    let n = shape.shares;
+    let w = shape.columns;
+    let size = row_words(shape);
+    let len = w * n;
+    // stays: rows of words are lent beside rows of bytes, and after chunks_mut a proof knows no element of what was lent
+    for r in 0..shape.rows {
+        let a = r * size;
+        let o = r * len;
+        dealing::deal(256, n, w, &mut words[a..a + size], &table[o..o + len]);
     }
 }
 
-// Turn r of store.
-fn store_row(n: usize, rows: usize, w: usize, table: &mut [u8], words: &[u64], r: usize)
-    requires bounded { Bounded n rows w }
-    requires r_lt_rows { (r < rows) × (length table.old ≡ table_bytes n rows w) × (rows * row_words n w ≤ length words.now) }
-    ensures { table.new ≡ store_turn n w words.now r table.old }
-{
-    let size = row_words(n, w);
-    let len = w * n;
-    let a = r * size;
-    let o = r * len;
-    word::take_row(n, w, &mut table[o..o + len], &words[a..a + size]);
-}
-
 // A table in words into bytes.
-pub fn store(n: usize, rows: usize, w: usize, table: &mut [u8], words: &[u64])
-    requires bounded { Bounded n rows w }
-    requires table_len { (length table.old ≡ table_bytes n rows w) × (rows * row_words n w ≤ length words.now) }
-    ensures { table.new ≡ table_of n w rows words.now }
+pub fn store(shape: Shape, table: &mut [u8], words: &[u64])
+    requires shaped { Shaped shape table.old }
+    requires worded { Worded shape words.now }
+    ensures { table.new ≡ table_in shape words.now }
 {
-    for r in 0..rows {
-        store_row(n, rows, w, table, words, r);
+    let n = shape.shares;
+    let w = shape.columns;
+    let size = row_words(shape);
+    let len = w * n;
+    // stays: rows of bytes are lent beside rows of words, and after chunks_mut a proof knows no element of what was lent
+    for r in 0..shape.rows {
+        let a = r * size;
+        let o = r * len;
+        word::take_row(n, w, &mut table[o..o + len], &words[a..a + size]);
     }
 }
 
 // T[r,j], as its n shares.
-fn entry(n: usize, rows: usize, w: usize, words: &[u64], r: usize, j: usize, out: &mut [u8])
-    requires bounded { Bounded n rows w }
-    requires inside { Inside rows w r j }
-    requires w_in_bounds { (rows * row_words n w ≤ length words.now) × (length out.old ≡ n) }
-    ensures { out.new ≡ entry n w r j (table_of n w rows words.now) }
+fn entry(shape: Shape, words: &[u64], r: usize, j: usize, out: &mut [u8])
+    requires worded { Worded shape words.now }
+    requires inside { Inside shape.rows shape.columns r j }
+    requires out_len { length out.old ≡ shape.shares }
+    ensures { out.new ≡ entry shape.shares shape.columns r j (table_in shape words.now) }
 {
-    let size = row_words(n, w);
+    let size = row_words(shape);
     let a = (r - 1) * size;
-    word::entry(n, &words[a..a + size], w - j, out);
+    word::entry(shape.shares, &words[a..a + size], shape.columns - j, out);
 }
 
 // The flag of T[r,j].
-fn pivot_flag(
-    f: u64,
-    n: usize,
-    rows: usize,
-    w: usize,
-    words: &[u64],
-    r: usize,
-    j: usize,
-    flag: &mut [u8],
-    mask: &[u8],
-)
-    requires bounded { Bounded n rows w }
-    requires inside { Inside rows w r j }
-    requires w_in_bounds { (rows * row_words n w ≤ length words.now) × (length flag.old ≡ n) × (flag_draws f n ≤ length mask.now) }
-    ensures { flag.new ≡ zero_flag f mask.now (entry n w r j (table_of n w rows words.now)) }
+fn pivot_flag(shape: Shape, words: &[u64], r: usize, j: usize, flag: &mut [u8], mask: &[u8])
+    requires worded { Worded shape words.now }
+    requires inside { Inside shape.rows shape.columns r j }
+    requires draws { (length flag.old ≡ shape.shares) × (flag_draws shape.field shape.shares ≤ length mask.now) }
+    ensures { flag.new ≡ zero_flag shape.field mask.now (entry shape.shares shape.columns r j (table_in shape words.now)) }
 {
+    let n = shape.shares;
     let mut pivot = [0u8; 4];
-    entry(n, rows, w, words, r, j, &mut pivot[..n]);
-    flag::zero_flag(f, flag, &pivot[..n], mask);
+    entry(shape, words, r, j, &mut pivot[..n]);
+    flag::zero_flag(shape.field, flag, &pivot[..n], mask);
 }
 
 // Check(j), where row r takes column j's pivot: 1 where its value is 0, and 0 otherwise.
-pub fn check(
-    f: u64,
-    n: usize,
-    rows: usize,
-    w: usize,
-    words: &[u64],
-    r: usize,
-    j: usize,
-    mask: &[u8],
-) -> u8
-    requires bounded { Bounded n rows w }
-    requires inside { Inside rows w r j }
-    requires w_in_bounds { (rows * row_words n w ≤ length words.now) × (check_cost f n ≤ length mask.now) }
-    ensures { result ≡ check f n w r j mask.now (table_of n w rows words.now) }
+pub fn check(shape: Shape, words: &[u64], r: usize, j: usize, mask: &[u8]) -> u8
+    requires worded { Worded shape words.now }
+    requires inside { Inside shape.rows shape.columns r j }
+    requires draws { check_cost shape.field shape.shares ≤ length mask.now }
+    ensures { result ≡ check shape.field shape.shares shape.columns r j mask.now (table_in shape words.now) }
 {
+    let f = shape.field;
+    let n = shape.shares;
     let d = flag::flag_draws(f, n);
     let mut flag = [0u8; 4];
-    pivot_flag(f, n, rows, w, words, r, j, &mut flag[..n], mask);
+    pivot_flag(shape, words, r, j, &mut flag[..n], mask);
     sharing::opening(f, &mut flag[..n], &mask[d..])
 }
 
-// Row a += Product(factor, row b), from column j on, where `bits` bits tell the factor. What is lent after the tape is room to work in, and hidden is
-// 0 in a way that the compiler does not see through.
-fn join_rows(
-    f: u64,
-    bits: usize,
-    n: usize,
-    rows: usize,
-    w: usize,
+// What the steps are lent to work in. hidden is 0 in a way that the compiler does not see through.
+#[derive(Drop)]
+pub struct Workspace<'a> {
+    pub other: &'a mut [u64],
+    pub draws: &'a mut [u64],
+    pub products: &'a mut [u64],
+    pub masks: &'a mut [u64],
+    pub hidden: u64,
+}
+
+// Row a += Product(factor, row b), from column j on, where BITS bits tell the factor.
+fn join_rows<const BITS: usize>(
+    shape: Shape,
     words: &mut [u64],
     factor: &[u8],
     a: usize,
     b: usize,
     j: usize,
     mask: &[u8],
-    other: &mut [u64],
-    draws: &mut [u64],
-    products: &mut [u64],
-    masks: &mut [u64],
-    hidden: u64,
+    lent: Workspace<'_>,
 )
-    requires bounded { Bounded n rows w }
-    requires inside { Inside rows w a j × Inside rows w b j }
-    requires w_in_bounds { (rows * row_words n w ≤ length words.old) × (length factor.now ≡ n) × (columns_from w j * pairs n ≤ length mask.now) × (hidden ≡ 0) }
-    requires room { Room n w other.old draws.old products.old masks.old × Told f factor.now bits }
-    requires below { Below (field_of f).q (table_of n w rows words.old) }
-    ensures { table_of n w rows words.new ≡ join_rows (field_of f) false n w a b j factor.now mask.now (table_of n w rows words.old) }
+    requires worded { Worded shape words.old }
+    requires inside { Inside shape.rows shape.columns a j × Inside shape.rows shape.columns b j }
+    requires draws { (length factor.now ≡ shape.shares) × (columns_from shape.columns j * pairs shape.shares ≤ length mask.now) }
+    requires room { Room shape lent × Told shape.field factor.now BITS }
+    requires below { Below (field_of shape.field).q (table_in shape words.old) }
+    ensures { table_in shape words.new ≡ join_rows (field_of shape.field) false shape.shares shape.columns a b j factor.now mask.now (table_in shape words.old) }
 {
-    let columns = w + 1 - j;
-    let size = row_words(n, w);
+    let Workspace {
+        other,
+        draws,
+        products,
+        masks,
+        hidden,
+    } = lent;
+    let n = shape.shares;
+    let columns = shape.columns + 1 - j;
+    let size = row_words(shape);
     let p = (a - 1) * size;
     let o = (b - 1) * size;
     let one = 1 + hidden as u8;
-    let pairs = sharing::pair_count(n);
-    choice::masks_of(bits, masks, factor, one);
-    choice::prepare(bits, n, columns, other, &words[o..o + size]);
-    dealing::deal(f == 16, pairs, columns, draws, mask);
+    choice::masks_of::<BITS>(masks, factor, one);
+    choice::prepare::<BITS>(n, columns, other, &words[o..o + size]);
+    dealing::deal(shape.field, sharing::pair_count(n), columns, draws, mask);
     let count = (columns + 7) / 8;
-    plane::join(
-        bits,
-        n,
-        count,
-        hidden,
-        &mut words[p..p + size],
-        other,
-        masks,
-        draws,
-        products,
-    );
+    let row = &mut words[p..p + size];
+    plane::join::<BITS>(n, count, hidden, row, other, masks, draws, products);
 }
 
 // Mix(j,k), where row r takes column j's pivot. The flag's shares are 0 or 1, so one bit tells them.
 pub fn mix(
-    f: u64,
-    n: usize,
-    rows: usize,
-    w: usize,
+    shape: Shape,
     words: &mut [u64],
     r: usize,
     j: usize,
     k: usize,
     mask: &[u8],
-    other: &mut [u64],
-    draws: &mut [u64],
-    products: &mut [u64],
-    masks: &mut [u64],
-    hidden: u64,
+    lent: Workspace<'_>,
 )
-    requires bounded { Bounded n rows w }
-    requires inside { Inside rows w r j × Inside rows w k j }
-    requires w_in_bounds { (rows * row_words n w ≤ length words.old) × (mix_cost f n (columns_from w j) ≤ length mask.now) × (hidden ≡ 0) }
-    requires room { Room n w other.old draws.old products.old masks.old }
-    requires below { Below (field_of f).q (table_of n w rows words.old) }
-    ensures { table_of n w rows words.new ≡ mix f n w r j k mask.now (table_of n w rows words.old) }
+    requires worded { Worded shape words.old }
+    requires inside { Inside shape.rows shape.columns r j × Inside shape.rows shape.columns k j }
+    requires draws { mix_cost shape.field shape.shares (columns_from shape.columns j) ≤ length mask.now }
+    requires room { Room shape lent }
+    requires below { Below (field_of shape.field).q (table_in shape words.old) }
+    ensures { table_in shape words.new ≡ mix shape.field shape.shares shape.columns r j k mask.now (table_in shape words.old) }
 {
+    let f = shape.field;
+    let n = shape.shares;
     let d = flag::flag_draws(f, n);
     let mut flag = [0u8; 4];
-    pivot_flag(f, n, rows, w, words, r, j, &mut flag[..n], mask);
-    join_rows(
-        f,
-        1,
-        n,
-        rows,
-        w,
-        words,
-        &flag[..n],
-        r,
-        k,
-        j,
-        &mask[d..],
-        other,
-        draws,
-        products,
-        masks,
-        hidden,
-    );
-}
-
-fn field_bits(f: u64) -> usize
-    ensures { result ≡ bits f }
-{
-    if f == 16 { 4 } else { 8 }
+    pivot_flag(shape, words, r, j, &mut flag[..n], mask);
+    join_rows::<1>(shape, words, &flag[..n], r, k, j, &mask[d..], lent);
 }
 
 // Clear(j,k), where row r takes column j's pivot.
 pub fn clear(
-    f: u64,
-    n: usize,
-    rows: usize,
-    w: usize,
+    shape: Shape,
     words: &mut [u64],
     r: usize,
     j: usize,
     k: usize,
     mask: &[u8],
-    other: &mut [u64],
-    draws: &mut [u64],
-    products: &mut [u64],
-    masks: &mut [u64],
-    hidden: u64,
+    lent: Workspace<'_>,
 )
-    requires bounded { Bounded n rows w }
-    requires inside { Inside rows w r j × Inside rows w k j }
-    requires w_in_bounds { (rows * row_words n w ≤ length words.old) × (clear_cost n (columns_from w j) ≤ length mask.now) × (hidden ≡ 0) }
-    requires room { Room n w other.old draws.old products.old masks.old }
-    requires below { Below (field_of f).q (table_of n w rows words.old) }
-    ensures { table_of n w rows words.new ≡ clear f n w r j k mask.now (table_of n w rows words.old) }
+    requires worded { Worded shape words.old }
+    requires inside { Inside shape.rows shape.columns r j × Inside shape.rows shape.columns k j }
+    requires draws { clear_cost shape.shares (columns_from shape.columns j) ≤ length mask.now }
+    requires room { Room shape lent }
+    requires below { Below (field_of shape.field).q (table_in shape words.old) }
+    ensures { table_in shape words.new ≡ clear shape.field shape.shares shape.columns r j k mask.now (table_in shape words.old) }
 {
+    let n = shape.shares;
     let mut copy = [0u8; 4];
-    entry(n, rows, w, words, k, j, &mut copy[..n]);
-    let bits = field_bits(f);
-    join_rows(
-        f,
-        bits,
-        n,
-        rows,
-        w,
-        words,
-        &copy[..n],
-        k,
-        r,
-        j,
-        mask,
-        other,
-        draws,
-        products,
-        masks,
-        hidden,
-    );
+    entry(shape, words, k, j, &mut copy[..n]);
+    let factor = &copy[..n];
+    let room = lent;
+    if shape.field == 16 {
+        join_rows::<4>(shape, words, factor, k, r, j, mask, room);
+    } else {
+        join_rows::<8>(shape, words, factor, k, r, j, mask, room);
+    }
 }
 
-// A row of bytes whose first entry is the pivot: each entry times the pivot's inverse, factor by factor, as of a table of this row alone.
-fn scale_bytes(f: u64, n: usize, columns: usize, bytes: &mut [u8], nonzero: &[u8], mask: &[u8])
-    requires le_n { (2 ≤ n) × (n ≤ 4) × (1 ≤ columns) × (columns ≤ most_columns) × (length bytes.old ≡ columns * n) }
-    requires columns_in_bounds { (scale_cost n columns ≤ length mask.now) × (scale_nonzero n ≤ length nonzero.now) }
-    ensures { bytes.new ≡ scale_bytes f n columns nonzero.now mask.now bytes.old }
+// The last columns of a row of words, as a table of this row alone, with room for their bytes: the first entry is the pivot, and each entry is taken
+// times its inverse, factor by factor.
+fn scale_words(shape: Shape, bytes: &mut [u8], row: &mut [u64], nonzero: &[u8], mask: &[u8])
+    requires bounded { Bounded shape.shares shape.rows shape.columns }
+    requires alone { (shape.rows ≡ 1) × (1 ≤ shape.columns) × (length bytes.old ≡ shape.columns * shape.shares) × (words_of shape.columns * shape.shares ≤ length row.old) }
+    requires draws { (scale_cost shape.shares shape.columns ≤ length mask.now) × (scale_nonzero shape.shares ≤ length nonzero.now) }
+    ensures { PutBytes shape.shares shape.columns (scale_bytes shape.field shape.shares shape.columns nonzero.now mask.now (bytes_of shape.shares shape.columns row.old)) row.old row.new }
 {
-    table::scale(f, n, 1, columns, bytes, 1, 1, nonzero, mask);
-}
-
-// And the last columns of a row of words, with room for their bytes.
-fn scale_words(
-    f: u64,
-    n: usize,
-    columns: usize,
-    bytes: &mut [u8],
-    row: &mut [u64],
-    nonzero: &[u8],
-    mask: &[u8],
-)
-    requires le_n { (2 ≤ n) × (n ≤ 4) × (1 ≤ columns) × (columns ≤ most_columns) × (length bytes.old ≡ columns * n) }
-    requires n_in_bounds { (words_of columns * n ≤ length row.old) × (scale_cost n columns ≤ length mask.now) × (scale_nonzero n ≤ length nonzero.now) }
-    ensures { PutBytes n columns (scale_bytes f n columns nonzero.now mask.now (bytes_of n columns row.old)) row.old row.new }
-{
-    word::take_row(n, columns, bytes, row);
-    scale_bytes(f, n, columns, bytes, nonzero, mask);
-    word::give_row(n, columns, row, bytes);
+    word::take_row(shape.shares, shape.columns, bytes, row);
+    table::scale(shape, bytes, 1, 1, nonzero, mask);
+    word::give_row(shape.shares, shape.columns, row, bytes);
 }
 
 // Scale(j), where row r takes column j's pivot: the row from column j on as bytes, scaled as table scales them, and back.
-pub fn scale(
-    f: u64,
-    n: usize,
-    rows: usize,
-    w: usize,
-    words: &mut [u64],
-    r: usize,
-    j: usize,
-    nonzero: &[u8],
-    mask: &[u8],
-)
-    requires bounded { Bounded n rows w }
-    requires inside { Inside rows w r j }
-    requires w_in_bounds { (rows * row_words n w ≤ length words.old) × (scale_cost n (columns_from w j) ≤ length mask.now) × (scale_nonzero n ≤ length nonzero.now) }
-    ensures { table_of n w rows words.new ≡ scale f n w r j nonzero.now mask.now (table_of n w rows words.old) }
+pub fn scale(shape: Shape, words: &mut [u64], r: usize, j: usize, nonzero: &[u8], mask: &[u8])
+    requires worded { Worded shape words.old }
+    requires inside { Inside shape.rows shape.columns r j }
+    requires draws { (scale_cost shape.shares (columns_from shape.columns j) ≤ length mask.now) × (scale_nonzero shape.shares ≤ length nonzero.now) }
+    ensures { table_in shape words.new ≡ scale shape.field shape.shares shape.columns r j nonzero.now mask.now (table_in shape words.old) }
 {
-    let columns = w + 1 - j;
-    let size = row_words(n, w);
+    let alone = Shape {
+        rows: 1,
+        columns: shape.columns + 1 - j,
+        ..shape
+    };
+    let size = row_words(shape);
     let a = (r - 1) * size;
-    let len = columns * n;
+    let len = alone.columns * alone.shares;
     let mut bytes = [0u8; 580];
-    scale_words(
-        f,
-        n,
-        columns,
-        &mut bytes[..len],
-        &mut words[a..a + size],
-        nonzero,
-        mask,
-    );
+    let row = &mut words[a..a + size];
+    scale_words(alone, &mut bytes[..len], row, nonzero, mask);
 }

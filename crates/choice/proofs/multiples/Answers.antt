@@ -1,31 +1,22 @@
--- `choice::multiples` meets its contract. The loop's invariant: the places so far hold the doubles, and v is the next one.
--- Assumes nothing.
 use mathlib.Core.Path.{refl, ap, ◌∙◌}
 use native.Mathlib.Omega.{arith}
-use lib.ListN.{length-set}
 use Rattle.row.specs.Code.Streams.{doubled}
 use Rattle.word.specs.Lanes.{lane, multiple}
 use Rattle.choice.specs.Code.Writing.{IsMultiple}
 use Rattle.choice.proofs.Doubling.{multiple-next}
-use Rattle.choice.proofs.Writing.{wrote_none, wrote_next, wrote_all}
-use borrow.Author.Rules.{rules}
+use Rattle.choice.proofs.Writing.{holds_next}
 use Rattle.choice.proofs.multiples.Goals as goal
 
-pub loop-t-init : goal.loop-t-init
+pub loop-place-init : goal.loop-place-init
 unfolding multiple
-loop-t-init c = (search rules, search rules, record { at = λ l h. refl }, wrote_none _ _ _)
+loop-place-init g c = (record { at = λ l h. refl }, λ t h. absurd (omega arith))
 
-pub loop-t-preserved : goal.loop-t-preserved
-loop-t-preserved c =
-    let l = c.loop-t in
-    let x = c.args in (
-      omega arith,
-      simp length-set l.invariant.1,
+pub loop-place-preserved : goal.loop-place-preserved
+loop-place-preserved g c =
+    let l = c.loop-place in
+    let x = c.args.x in (
       record {
-        at = λ i h. c.double-v.ensures.at i h ∙ ap (doubled x.bits) (l.invariant.2.at i h) ∙ multiple-next x.bits l.t (lane x.x i);
+        at = λ i h. c.double-v.ensures.at i h ∙ ap (doubled g.row.BITS) (l.invariant.0.at i h) ∙ multiple-next g.row.BITS l.place-index (lane x i);
       },
-      wrote_next x.at (IsMultiple x.bits x.x) l.t l.v _ l.other (omega arith) l.invariant.3 l.invariant.2,
+      holds_next (IsMultiple g.row.BITS x) l.place-index l.v l.group (omega arith) l.invariant.1 l.invariant.0,
     )
-
-pub returns : goal.returns
-returns c = let l = c.loop-t in wrote_all _ _ l.t _ _ _ (omega arith) l.invariant.3

@@ -1,14 +1,9 @@
--- `choice::multiples` meets its contract. The loop's invariant: the places so far hold the doubles, and v is the next one.
--- Assumes nothing.
-use mathlib.Core.Path.{◌≡◌}
-use Prim.Native.Nat.{◌-◌, ◌≤◌}
-use lib.ListN.{length}
-use Rattle.choice.specs.Code.Writing.{Wrote, IsMultiple}
+-- The places so far hold the word and its doubles, and v is the next one.
+use Prim.Native.Nat.{ℕ, ◌<◌}
+use lib.ListN.{get_or}
+use Rattle.choice.specs.Code.Writing.{IsMultiple}
 use Rattle.choice.proofs.multiples.Given as goal
 
-abbrev pub invariant-loop-t : goal.invariant-loop-t
-invariant-loop-t l =
-    (l.t ≤ l.bits) × (length l.other ≡ length l.initial.other) × IsMultiple l.bits l.x l.t l.v × Wrote l.at l.t (IsMultiple l.bits l.x) l.initial.other l.other
-
-abbrev pub decreases-loop-t : goal.decreases-loop-t
-decreases-loop-t l = l.bits - l.t
+abbrev pub invariant-loop-place : goal.invariant-loop-place
+invariant-loop-place g l =
+    IsMultiple g.row.BITS l.x l.place-index l.v × ((t : ℕ) → t < l.place-index → IsMultiple g.row.BITS l.x t (get_or l.group t 0))

@@ -1,38 +1,38 @@
--- `dealing::deal` meets its contract: the words are dealt, and low keeps of each lane what is modulo the field.
--- Assumes nothing.
-use mathlib.Core.Path.{◌≡◌, refl, ap, ◌∙◌}
-use mathlib.Core.Bool.{Bool}
-use Prim.Native.Nat.{ℕ, ◌+◌, ◌-◌, ◌*◌, ◌/◌, ◌%◌, ◌<◌}
+use mathlib.Core.Path.{◌≡◌, refl}
+use mathlib.Core.Logic.{◌⊎◌, inl, inr}
+use mathlib.Core.Bool.{true, false}
+use Prim.Native.Nat.{ℕ, ◌-◌, ◌%◌, ◌<◌}
 use native.Mathlib.Omega.{arith}
 use lib.Bits.{bit_and}
-use Rattle.field.specs.Field.{pick}
+use borrow.Author.Tests.{ne_eqb}
+use Rattle.field.specs.Field.{field_of, F16, F256}
 use Rattle.word.specs.Lanes.{lane}
 use Rattle.word.specs.Rows.{words_of}
 use Rattle.dealing.proofs.Dealing.{dealt_none, dealt_more, dealt, low_of, low_cut}
 use Rattle.dealing.proofs.deal.Goals as goal
-use Rattle.dealing.proofs.deal.Goals.{then-sixteen, else-sixteen}
+use Rattle.dealing.proofs.deal.Goals.{then-f-eq16, else-f-eq16}
 
--- what low keeps of each lane, where it is the number that the field has
-keeps : (sixteen : Bool) (low : ℕ) → low ≡ low_of sixteen → (x l : ℕ) → l < 8 → bit_and x (lane low l) ≡ x % pick sixteen 16 256
-keeps sixteen low e x l h = ap (λ (y : ℕ). bit_and x (lane y l)) e ∙ low_cut sixteen x l h
+-- low is the number that the field has
+abbrev Low : ℕ → ℕ → Type 0
+Low f low = ((f ≡ 16) × (low ≡ low_of true)) ⊎ ((f ≡ 16 → ⊥) × (low ≡ low_of false))
 
-pub few-requires : goal.few-requires
-few-requires c =
-    let one : (c.args.columns + 7) / 8 ≡ 1 = omega arith in
-    (omega arith, omega arith, omega (arith, ap (λ (w : ℕ). w * c.args.n) one), c.requires.n_in_bounds.0)
+-- what it keeps of each lane
+keeps : (f low : ℕ) → Low f low → (x l : ℕ) → l < 8 → bit_and x (lane low l) ≡ x % (field_of f).q
+unfolding field_of F16 F256
+keeps f low (inl h) x l k = rw (h.0, h.1) (low_cut true x l k)
+keeps f low (inr h) x l k = rw (ne_eqb f 16 h.0, h.1) (low_cut false x l k)
 
 pub returns-then-columns-lt8 : goal.returns-then-columns-lt8
 returns-then-columns-lt8 c =
-    let low-is : c.if-sixteen.low ≡ low_of c.args.sixteen =
-    elim c.if-sixteen.branch [ then-sixteen w ↦ w.low-is ∙ rw w.if-sixteen.true | else-sixteen w ↦ w.low-is ∙ rw w.if-sixteen.false ] in
     let x = c.args in
-    let low = c.if-sixteen.low in
-    dealt low x.n x.columns x.d.now (pick x.sixteen 16 256) 1 _ (keeps c.args.sixteen c.if-sixteen.low low-is) (omega arith)
+    let low : ℕ = c.if-f-eq16.low in
+    let has : Low x.f low = elim c.if-f-eq16.branch [ then-f-eq16 w ↦ inl (w.if-f-eq16.true, w.low-is) | else-f-eq16 w ↦ inr (w.if-f-eq16.false, w.low-is) ] in
+    dealt low x.n x.columns x.d.now (field_of x.f).q 1 _ (keeps x.f low has) (omega arith)
     (dealt_more low x.n x.columns x.d.now 0 0 (8 - x.columns) 0 0 _ _ (omega arith) (omega arith) (omega arith) (λ h. refl) (dealt_none _ _ _ _ _) c.few.ensures)
 
 pub returns-else-columns-lt8 : goal.returns-else-columns-lt8
 returns-else-columns-lt8 c =
-    let low-is : c.if-sixteen.low ≡ low_of c.args.sixteen =
-    elim c.if-sixteen.branch [ then-sixteen w ↦ w.low-is ∙ rw w.if-sixteen.true | else-sixteen w ↦ w.low-is ∙ rw w.if-sixteen.false ] in
     let x = c.args in
-    dealt c.if-sixteen.low x.n x.columns x.d.now (pick x.sixteen 16 256) (words_of x.columns) _ (keeps c.args.sixteen c.if-sixteen.low low-is) refl c.deal_row.ensures
+    let low : ℕ = c.if-f-eq16.low in
+    let has : Low x.f low = elim c.if-f-eq16.branch [ then-f-eq16 w ↦ inl (w.if-f-eq16.true, w.low-is) | else-f-eq16 w ↦ inr (w.if-f-eq16.false, w.low-is) ] in
+    dealt low x.n x.columns x.d.now (field_of x.f).q (words_of x.columns) _ (keeps x.f low has) refl c.deal_row.ensures

@@ -1,35 +1,26 @@
--- `field_at` meets its contract: each check decides as the definition does, and after a pass the order is the rest of it.
+-- `field_at` meets its contract: each check in its order, and the first that refuses stands.
 -- Assumes nothing.
-use mathlib.Core.Path.{sym, ap, ◌∙◌}
-use native.Mathlib.Omega.{arith}
-use borrow.Author.Tests.{lt-ltb, le-ltb, eq-eqb, ne_eqb}
+use Rattle.std.proofs.Common.{rules}
 use Rattle.verdict.specs.Told.{◌or◌}
-use Rattle.verdict.specs.Refusals.{outside}
-use Rattle.verdict.proofs.Verdicts.{ors, tests}
 use Rattle.exchange.specs.Record.{ends, no16, unsuited, field_at}
-use Rattle.exchange.proofs.Fields.{field_rest}
 use Rattle.exchange.proofs.field_at.Goals as goal
 
-pub returns-then-input-at : goal.returns-then-input-at
+pub returns-in_err-refuse_if : goal.returns-in_err-refuse_if
 unfolding field_at ends ◌or◌
-returns-then-input-at c = rw (lt-ltb _ _ c.if-input-at.true)
+returns-in_err-refuse_if c = search rules
 
-pub returns-then-input-at-2 : goal.returns-then-input-at-2
+pub returns-in_err-refuse_if-2 : goal.returns-in_err-refuse_if-2
 unfolding field_at ends no16 ◌or◌
-returns-then-input-at-2 c = rw (le-ltb _ _ c.if-input-at.false, ne_eqb _ _ c.if-input-at-2.true)
+returns-in_err-refuse_if-2 c = search rules
 
-pub returns-then-input-at-3 : goal.returns-then-input-at-3
+pub returns-in_err-refuse_if-3 : goal.returns-in_err-refuse_if-3
 unfolding field_at ends no16 ◌or◌
-returns-then-input-at-3 c = rw (le-ltb _ _ c.if-input-at.false, eq-eqb _ _ c.if-input-at-2.false, lt-ltb _ _ c.if-input-at-3.true)
+returns-in_err-refuse_if-3 c = search rules
 
-pub number_at-length-requires : goal.number_at-length-requires
-number_at-length-requires c = omega (arith, c.if-input-at-3.false)
+pub returns-in_err-refuse_if-4 : goal.returns-in_err-refuse_if-4
+unfolding field_at ends no16 unsuited ◌or◌
+returns-in_err-refuse_if-4 c = search rules
 
 pub returns : goal.returns
-unfolding unsuited ends
-returns c =
-    let x = c.args in
-    let n = c.number_at-length.ensures.0 in
-    let v = tests _ c.refuse_if-v.ensures (c.is_outside-unsuited.ensures ∙ ap (outside x.least x.most) n) in
-    let w = rw n at c.refuse_if-w.ensures in
-    ors c.or_else.ensures v w ∙ sym (field_rest x.input.now x.at x.tag x.least x.most c.if-input-at-3.false c.if-input-at-2.false)
+unfolding field_at ends no16 unsuited ◌or◌
+returns c = search rules

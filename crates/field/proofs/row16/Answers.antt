@@ -5,4 +5,4 @@ use Rattle.field.proofs.row16.Goals as goal
 
 pub returns : goal.returns
 unfolding rows
-returns c = record { at = λ b. row-entry c.args.a b }
+returns c = rw c.from-i.ensures (record { at = λ b. row-entry c.args.a b })

@@ -1,15 +1,15 @@
 -- `flag::first_terms` meets its contract: its calls are the passes that make t, and the first pass over the pairs.
 -- Assumes nothing.
-use mathlib.Core.Path.{◌∙◌}
+use Rattle.std.proofs.Common.{sym, ◌∙◌, rules}
 use Rattle.flag.proofs.FreshShift.{refreshed}
 use Rattle.flag.proofs.first_terms.Goals as goal
 
-pub returns : goal.returns
-returns c =
-    let a = c in
-    let x = a.args in
+-- written out, so that the edit refresh_as_before can put the other call's in its place
+pub sum_pairs-requires : goal.sum_pairs-requires
+sum_pairs-requires g c = search rules
+
+pub returns-clause-t_after : goal.returns-clause-t_after
+returns-clause-t_after g c =
+    let x = c.args in
     let made = rw (c.sum_pairs.ensures, c.shift.ensures) at c.reduce.ensures in
-    record {
-      t_after = made ∙ refreshed a.requires.binary x.h x.n x.ds.now x.s.now a.requires.h_bound.3;
-      x_after = c.cross.ensures;
-    }
+    made ∙ refreshed c.requires.binary x.h g.row.N x.ds.now x.s.now (sym c.requires.h_bound.3)

@@ -1,16 +1,16 @@
 -- `flag::flag_draws` meets its contract: the folds, times the draws of each, are few.
 -- Assumes nothing.
-use native.Mathlib.Omega.{arith}
-use Prim.Native.Nat.{◌*◌, ◌≤◌}
+use Rattle.std.proofs.Common.{◌≡◌, ℕ, ◌*◌, ◌≤◌, arith}
+use Rattle.flag.specs.Flag.{folds, fold_draws}
 use Rattle.flag.proofs.Folding.{flag_few}
 use Rattle.flag.proofs.flag_draws.Goals as goal
-use Rattle.flag.proofs.flag_draws.Goals.{After-fold_draws}
 
-few : (c : After-fold_draws) → c.fold_count.result * c.fold_draws.result ≤ 36
-few c = rw (c.fold_count.ensures, c.fold_draws.ensures.0) (flag_few c.args.f c.args.n (omega arith))
+few : (f n a b : ℕ) → a ≡ folds f → b ≡ fold_draws n → n ≤ 4 → a * b ≤ 36
+few f n a b p q h = rw (p, q) (flag_few f n h)
 
 pub overflow_mul-result : goal.overflow_mul-result
-overflow_mul-result c = omega (arith, few c)
+overflow_mul-result c = omega (arith, few c.args.f c.args.n _ _ c.fold_count.ensures c.fold_draws.ensures.0 (omega arith))
 
 pub returns : goal.returns
-returns c = (rw (c.fold_count.ensures, c.fold_draws.ensures.0), few c)
+returns c =
+    (rw (c.fold_count.ensures, c.fold_draws.ensures.0), few c.args.f c.args.n _ _ c.fold_count.ensures c.fold_draws.ensures.0 (omega arith))

@@ -1,21 +1,17 @@
--- `flag::low_bits` meets its contract. The loop's invariant: the turns so far have stored the low bit of each place passed.
+-- `flag::low_bits` meets its contract: a turn of the loop is a turn of `each`.
 -- Assumes nothing.
-use native.Mathlib.Omega.{arith}
-use mathlib.Core.Path.{refl}
-use lib.ListN.{length-set}
+use Rattle.std.proofs.Common.{refl, arith}
 use Rattle.sharing.proofs.Loops.{run_none, run-next}
 use Rattle.sharing.proofs.Each.{each_map}
 use Rattle.flag.specs.Flag.{low_bits}
-use borrow.Author.Rules.{rules}
 use Rattle.flag.proofs.low_bits.Goals as goal
 
-pub loop-i-init : goal.loop-i-init
-loop-i-init c = (search rules, search rules, search rules, run_none _ _)
+pub loop-x-init : goal.loop-x-init
+loop-x-init c = run_none _ _
 
-pub loop-i-preserved : goal.loop-i-preserved
-loop-i-preserved c = let l = c.loop-i in
-    (search rules, search rules, simp length-set l.invariant.2, run-next _ _ _ _ _ l.invariant.3 refl)
+pub loop-x-preserved : goal.loop-x-preserved
+loop-x-preserved c = run-next _ _ _ _ _ c.loop-x.invariant refl
 
 pub returns : goal.returns
 unfolding low_bits
-returns c = each_map _ _ c.args.s.now _ c.loop-i.invariant.3 (omega arith)
+returns c = each_map _ _ c.args.s.now _ c.loop-x.invariant (omega arith)

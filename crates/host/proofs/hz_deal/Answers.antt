@@ -13,4 +13,4 @@ pub returns : goal.returns
 unfolding hz_deal
 returns c =
     words_right_lem _ _ _ _ _ (eq-eqb _ _ c.if-answer-ne4.false)
-    (hands _ _ _ c.say.ensures _ _ _ _ c.deal-f.ensures c.of_fill.ensures)
+    (hands _ _ _ c.say.ensures _ _ _ _ c.deal-f.ensures c.reply.ensures)

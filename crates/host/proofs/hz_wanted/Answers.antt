@@ -12,4 +12,4 @@ pub returns : goal.returns
 unfolding hz_wanted
 returns c =
     words_right_lem _ _ _ _ _ (words-and-four _ _ _ c.if-record_words-ne8.false c.if-answer-ne4.false)
-    (hands _ _ _ c.say.ensures _ _ _ _ (rw c.read.ensures at c.wanted-w.ensures) c.of_wanted.ensures)
+    (hands _ _ _ c.say.ensures _ _ _ _ (rw c.read.ensures at c.wanted-w.ensures) c.reply.ensures)

@@ -13,4 +13,4 @@ pub returns : goal.returns
 unfolding hz_wide_counts
 returns c =
     words_right_lem _ _ _ _ _ (eq-eqb _ _ c.if-answer-ne4.false)
-    (hands _ _ _ c.say.ensures _ _ _ _ c.counts-c.ensures c.of_wide_wanted.ensures)
+    (hands _ _ _ c.say.ensures _ _ _ _ c.counts-c.ensures c.reply.ensures)

@@ -13,4 +13,4 @@ pub returns : goal.returns
 unfolding hz_wide_solve
 returns c =
     words_right_lem _ _ _ _ _ (eq-eqb _ _ c.if-answer-ne4.false)
-    (hands _ _ _ c.say.ensures _ _ _ _ c.solve-s.ensures.outcome c.of_wide_solve.ensures)
+    (hands _ _ _ c.say.ensures _ _ _ _ c.solve-s.ensures.outcome c.reply.ensures)

@@ -1,18 +1,21 @@
 -- `hz_wide_step` meets its contract: the outcome of `wide::step` in words, or code 99.
 -- Assumes nothing.
 use Rattle.host.specs.Faces.{hz_wide_step}
-use Rattle.host.proofs.Faces.{words_wrong, words_right_lem, not_words-or-four, words-and-four, hands_wide_step}
+use Rattle.host.proofs.Faces.{words_wrong, words_right_lem, not_words-or-four, words-and-four, hands_step, hands_no_step}
 use Rattle.host.proofs.hz_wide_step.Goals as goal
 
 pub returns-then-record_words-ne106 : goal.returns-then-record_words-ne106
 unfolding hz_wide_step
 returns-then-record_words-ne106 c = words_wrong _ _ _ _ (not_words-or-four _ _ _ c.then-record_words-ne106.either)
 
-pub returns : goal.returns
+pub returns-in-Ok : goal.returns-in-Ok
 unfolding hz_wide_step
-returns c =
+returns-in-Ok c =
     words_right_lem _ _ _ _ _ (words-and-four _ _ _ c.if-record_words-ne106.false c.if-answer-ne4.false)
-    (hands_wide_step _ _ _ c.say.ensures _ _ _ _ _ _
-    (rw c.read_wide.ensures at c.step-s.ensures)
-    c.of_wide_step-r.ensures
-    c.keep_wide.ensures)
+    (hands_step _ _ _ c.say.ensures _ _ _ _ _ _ _ _ (rw (c.read_wide-p.ensures, c.in-Ok.is) at c.step.ensures) c.reply.ensures c.write_wide.ensures)
+
+pub returns-in-Err : goal.returns-in-Err
+unfolding hz_wide_step
+returns-in-Err c =
+    words_right_lem _ _ _ _ _ (words-and-four _ _ _ c.if-record_words-ne106.false c.if-answer-ne4.false)
+    (hands_no_step _ _ _ c.say-in-Err.ensures _ _ _ _ _ _ _ (rw (c.read_wide-p.ensures, c.in-Err.is) at c.step.ensures) c.reply-in-Err.ensures)

@@ -1,27 +1,19 @@
 -- `plain::solve` meets its contract: a pass gives the work what it asks for, the copy is the values, and what meets the equation has its meaning.
 -- Assumes nothing.
 use mathlib.Core.List.{List}
-use mathlib.Core.Path.{◌≡◌, sym, ◌∙◌}
+use mathlib.Core.Path.{◌≡◌, sym}
 use Prim.Native.Nat.{ℕ, ◌+◌, ◌*◌, ◌≤◌}
 use native.Mathlib.Nat.{mul-le-mul}
 use native.Mathlib.Omega.{arith}
-use lib.ListN.{length, length-append}
-use lib.Seq.{length-take-le, take_at}
+use lib.ListN.{length}
+use lib.Seq.{length-take-le}
+use Rattle.std.proofs.Common.{rules}
 use Rattle.sharing.specs.Bounds.{most_rows, most_width, most_entries}
-use Rattle.verdict.specs.declared.Verdict.{Verdict}
-use Rattle.verdict.specs.declared.Verdict.TheVariants.{Pass}
-use Rattle.verdict.specs.Code.Verdicts.{told}
-use Rattle.verdict.specs.Calls.{after}
-use Rattle.verdict.proofs.Calls.{refuses_call, passes_call}
-use Rattle.verdict.proofs.Verdicts.{passes}
-use Rattle.plain.specs.Calls.{plain_says, plain_order, plain_call}
+use Rattle.verdict.specs.Calls.{gives, after, call}
+use Rattle.plain.specs.Calls.{answer, plain_call}
 use Rattle.plain.proofs.Admitted.{Admitted, admitted, one_byte}
 use Rattle.plain.proofs.Meaning.{means}
 use Rattle.plain.proofs.solve.Goals as goal
-
--- a pass says what the work asks for
-lent : {f m long : ℕ} {values : List ℕ} {v : Verdict} → told v ≡ plain_order f m values long → v ≡ Pass → Admitted f m values long
-lent e h = admitted _ _ _ _ (passes _ _ e h)
 
 -- the values fit the copy
 few : {f m long : ℕ} {values : List ℕ} → Admitted f m values long → length values ≤ most_entries
@@ -29,41 +21,32 @@ few {m = m} a =
     let all : m * (m + 1) ≤ most_entries = mul-le-mul {n₁ = m} {m₁ = m + 1} {n₂ = most_rows} {m₂ = most_width} a.most (omega (arith, a.most)) in
     rw a.entries all
 
+pub returns-in_err-check-clause-outcome : goal.returns-in_err-check-clause-outcome
+unfolding plain_call call
+returns-in_err-check-clause-outcome c = search rules
+
+pub slice_bounds-copy-end : goal.slice_bounds-copy-end
+slice_bounds-copy-end c = few (admitted _ _ _ _ (sym c.in_ok-check.ensures))
+
 pub slice_bounds-t-end : goal.slice_bounds-t-end
-slice_bounds-t-end c = few (lent c.check.ensures c.in-Pass.is)
+slice_bounds-t-end c = sym (length-take-le _ _ (few (admitted _ _ _ _ (sym c.in_ok-check.ensures))))
 
-pub slice_bounds-copy_into-end : goal.slice_bounds-copy_into-end
-slice_bounds-copy_into-end c = sym (length-take-le _ _ (few (lent c.check.ensures c.in-Pass.is)))
-
-pub copy_into-requires : goal.copy_into-requires
-copy_into-requires c = length-take-le _ _ (few (lent c.check.ensures c.in-Pass.is))
-
-pub slice_bounds-t-end-in-Pass : goal.slice_bounds-t-end-in-Pass
-slice_bounds-t-end-in-Pass c =
-    let d = c.copy_into.auto.dst ∙ length-take-le _ _ (few (lent c.check.ensures c.in-Pass.is)) in
-    simp length-append (omega (arith, d))
-
-pub slice_bounds-work-end : goal.slice_bounds-work-end
-slice_bounds-work-end c =
-    let d = c.copy_into.auto.dst ∙ length-take-le _ _ (few (lent c.check.ensures c.in-Pass.is)) in
-    rw (take_at _ _ _ d) (sym d)
+pub copy_from_slice-requires : goal.copy_from_slice-requires
+copy_from_slice-requires c = length-take-le _ _ (few (admitted _ _ _ _ (sym c.in_ok-check.ensures)))
 
 pub work-requires : goal.work-requires
 work-requires c =
-    let d = c.copy_into.auto.dst ∙ length-take-le _ _ (few (lent c.check.ensures c.in-Pass.is)) in
-    let a = lent c.check.ensures c.in-Pass.is in
-    let x = c.args in
-    rw (take_at _ _ _ d) (a.most, d ∙ one_byte x.size x.values.now a.entries, a.room)
+    let a = admitted _ _ _ _ (sym c.in_ok-check.ensures) in
+    rw c.copy_from_slice.ensures.after ((a.most, one_byte c.args.size c.args.values.now a.entries), a.room)
 
-pub returns-in-Refuse : goal.returns-in-Refuse
-unfolding plain_call
-returns-in-Refuse c = record { outcome = refuses_call _ _ _ _ _ c.check.ensures c.in-Refuse.is; meaning = tt }
+pub returns-clause-outcome : goal.returns-clause-outcome
+unfolding plain_call call
+returns-clause-outcome c = rw (← c.in_ok-check.ensures) (rw c.copy_from_slice.ensures.after at c.work.ensures)
 
-pub returns-in-Pass : goal.returns-in-Pass
-unfolding plain_call
-returns-in-Pass c =
+pub returns-clause-meaning : goal.returns-clause-meaning
+unfolding plain_call call
+returns-clause-meaning c =
     let x = c.args in
-    let d = c.copy_into.auto.dst ∙ length-take-le _ _ (few (lent c.check.ensures c.in-Pass.is)) in
-    let e : after (plain_says c.work.result) c.work.new.solution ≡ plain_call x.field x.size x.values.now x.solution.now =
-    (rw (take_at _ _ _ d, c.copy_into.ensures) at c.work.ensures) ∙ passes_call _ _ _ _ c.check.ensures c.in-Pass.is in
-    record { outcome = e; meaning = means x.field x.size x.values.now x.solution.now _ _ e }
+    let e : after (gives (answer c.work.result)) c.work.new.solution ≡ plain_call x.field x.size x.values.now x.solution.now =
+    rw (← c.in_ok-check.ensures) (rw c.copy_from_slice.ensures.after at c.work.ensures) in
+    means x.field x.size x.values.now x.solution.now _ _ e

@@ -1,6 +1,4 @@
--- `plane::times` meets its contract. The loop's invariant: what is joined and what is left to join are the whole.
--- Assumes nothing.
-use mathlib.Core.Path.{◌≡◌, refl, sym, ap, ap₂, ◌∙◌}
+use mathlib.Core.Path.{◌≡◌, sym, ap, ap₂, ◌∙◌}
 use mathlib.Core.List.{List}
 use Prim.Native.Nat.{ℕ, suc, ◌<◌, ◌-◌, ◌+◌}
 use native.Mathlib.Omega.{arith}
@@ -8,7 +6,6 @@ use lib.Bits.{bit_xor, bit_and, xor_zero_r}
 use lib.ListN.{get_or}
 use Rattle.field.proofs.Xor.{xor_assoc}
 use Rattle.plane.specs.Code.Products.{dot}
-use borrow.Author.Rules.{rules}
 use Rattle.plane.proofs.times.Goals as goal
 
 -- the turn's code is the definition's step
@@ -25,24 +22,16 @@ turn bits masks a other b v t l =
     ∙ ap₂ (λ (i j : ℕ). bit_xor v (bit_xor x (dot (bits - (t + 1)) masks i other j))) f g
     ∙ ap (λ (k : ℕ). bit_xor v (dot k masks (a + t) other (b + t))) e
 
-pub loop-t-init : goal.loop-t-init
-loop-t-init c =
-    let x = c.args in
-    let e : x.bits - 0 ≡ x.bits = omega arith in
-    let f : x.a + 0 ≡ x.a = omega arith in
-    let g : x.b + 0 ≡ x.b = omega arith in
-    (search rules, rw (e, f, g) refl)
-
 pub loop-t-preserved : goal.loop-t-preserved
-loop-t-preserved c =
+loop-t-preserved g c =
     let l = c.loop-t in
     let x = c.args in
-    (search rules, turn x.bits x.masks.now x.a x.other.now x.b l.v l.t (omega arith) ∙ l.invariant.1)
+    turn g.row.BITS x.masks.now x.a x.other.now x.b l.v l.t (omega arith) ∙ l.invariant
 
 pub returns : goal.returns
 unfolding dot
-returns c =
+returns g c =
     let l = c.loop-t in
     let x = c.args in
-    let e : x.bits - l.t ≡ 0 = omega arith in
-    sym (xor_zero_r l.v) ∙ ap (λ (k : ℕ). bit_xor l.v (dot k x.masks.now (x.a + l.t) x.other.now (x.b + l.t))) (sym e) ∙ l.invariant.1
+    let e : g.row.BITS - l.t ≡ 0 = omega arith in
+    sym (xor_zero_r l.v) ∙ ap (λ (k : ℕ). bit_xor l.v (dot k x.masks.now (x.a + l.t) x.other.now (x.b + l.t))) (sym e) ∙ l.invariant

@@ -1,14 +1,10 @@
 -- What `join` promises, word by word, as plain exclusive or of words: proofs/JoinLaw takes it to the shares of Product.
 -- Assumes nothing.
-use Rattle.std.specs.Prelude.{◌≡◌, ◌⊎◌, ℕ, ◌+◌, ◌*◌, ◌<◌, ◌≤◌, List, get_or}
+use Rattle.std.specs.Prelude.{◌≡◌, ℕ, ◌+◌, ◌*◌, ◌<◌, ◌≤◌, List, get_or}
 use Rattle.std.specs.Int.Bits.{bit_xor}
 use Rattle.sharing.specs.Run.{pairs}
 use Rattle.row.specs.Code.Shares.{share_sum}
 use Rattle.plane.specs.Code.Products.{dot}
-
--- the bits that a factor's shares are taken for: a field's, or one where they are 0 or 1
-abbrev pub Widths : ℕ → Type 0
-Widths bits = (bits ≡ 1) ⊎ ((bits ≡ 4) ⊎ (bits ≡ 8))
 
 -- the word of share s, of the first `words` words of each share, has been joined by what Product has for it; the words past them stayed
 pub record JoinedWords (bits n words : ℕ) (masks other z row new : List ℕ) : Type 0 where

@@ -8,15 +8,13 @@ use Rattle.row.specs.Code.Streams.{doubled}
 use borrow.Author.Tests.{eq-eqb, ne_eqb}
 use Rattle.row.proofs.doubled.Goals as goal
 
-pub returns-then-bits-eq4 : goal.returns-then-bits-eq4
+pub returns-then-this-eq4 : goal.returns-then-this-eq4
 unfolding doubled
-returns-then-bits-eq4 c =
-    let a = c.args in
-    let e : a.x * 2 % 256 % 16 ≡ a.x * 2 % 16 = omega arith in
-    rw (eq-eqb a.bits 4 c.if-bits-eq4.true) (ap (λ (y : ℕ). bit_xor y (a.x / 8 % 2 * 3)) e)
+returns-then-this-eq4 g c =
+    let x = c.args.x in
+    let e : x * 2 % 256 % 16 ≡ x * 2 % 16 = omega arith in
+    rw (eq-eqb g.row.BITS 4 c.if-this-eq4.true) (ap (λ (y : ℕ). bit_xor y (x / 8 % 2 * 3)) e)
 
-pub returns-else-bits-eq4 : goal.returns-else-bits-eq4
+pub returns-else-this-eq4 : goal.returns-else-this-eq4
 unfolding doubled
-returns-else-bits-eq4 c =
-    let a = c.args in
-    rw (ne_eqb a.bits 4 c.if-bits-eq4.false) refl
+returns-else-this-eq4 g c = rw (ne_eqb g.row.BITS 4 c.if-this-eq4.false) refl

@@ -5,7 +5,7 @@ use Rattle.row.proofs.GatherLaw.{later_chosen, later-left}
 use Rattle.row.proofs.later.Goals as goal
 
 pub returns-then-d-q : goal.returns-then-d-q
-returns-then-d-q c = sym (later_chosen _ _ _ c.if-d-q.true)
+returns-then-d-q g c = sym (later_chosen _ _ _ c.if-d-q.true)
 
 pub returns-else-d-q : goal.returns-else-d-q
-returns-else-d-q c = sym (later-left _ _ _ c.if-d-q.false)
+returns-else-d-q g c = sym (later-left _ _ _ c.if-d-q.false)

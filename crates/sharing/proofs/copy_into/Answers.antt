@@ -1,21 +1,18 @@
--- `sharing::copy_into` meets its contract. The loop's invariant: the turns so far have stored the source's byte at each place passed.
+-- `sharing::copy_into` meets its contract: a turn of the loop is a turn of `each`.
 -- Assumes nothing.
-use native.Mathlib.Omega.{arith}
-use mathlib.Core.Path.{◌≡◌, refl}
-use lib.ListN.{length, length-set}
+use Rattle.std.proofs.Common.{◌≡◌, length, refl, arith}
 use Rattle.sharing.proofs.Loops.{run_none, run-next}
-use Rattle.sharing.proofs.Each.{each-tab}
 use Rattle.sharing.proofs.Pairs.{tab_list}
-use borrow.Author.Rules.{rules}
+use Rattle.sharing.proofs.Each.{each-tab}
 use Rattle.sharing.proofs.copy_into.Goals as goal
 
-pub loop-d-init : goal.loop-d-init
-loop-d-init c = (search rules, search rules, search rules, run_none _ _)
+pub loop-k-init : goal.loop-k-init
+loop-k-init c = run_none _ _
 
-pub loop-d-preserved : goal.loop-d-preserved
-loop-d-preserved c = let l = c.loop-d in
-    (search rules, search rules, simp length-set l.invariant.2, run-next _ _ _ _ _ l.invariant.3 refl)
+pub loop-k-preserved : goal.loop-k-preserved
+loop-k-preserved c = run-next _ _ _ _ _ c.loop-k.invariant refl
 
 pub returns : goal.returns
-returns c = let e : c.loop-d.d ≡ length c.args.src.now = omega arith in
-    rw (e, tab_list) at (each-tab _ _ _ _ c.loop-d.invariant.3 (omega arith))
+returns c =
+    let e : c.loop-k.k ≡ length c.args.src.now = omega arith in
+    rw (e, tab_list) at (each-tab _ _ _ _ c.loop-k.invariant (omega arith))

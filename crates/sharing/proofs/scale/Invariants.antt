@@ -1,15 +1,10 @@
 -- `sharing::scale` meets its contract. The loop's invariant: the turns so far have stored z times each place passed.
 -- Assumes nothing.
-use mathlib.Core.Path.{◌≡◌}
-use Prim.Native.Nat.{◌-◌, ◌≤◌}
-use lib.ListN.{length}
+use Rattle.std.proofs.Common.{◌≡◌}
+use Rattle.field.specs.Field.{field_of}
 use Rattle.sharing.specs.Run.{run}
 use Rattle.sharing.proofs.Each.{each}
-use Rattle.field.specs.Field.{field_of}
 use Rattle.sharing.proofs.scale.Given as goal
 
-abbrev pub invariant-loop-i : goal.invariant-loop-i
-invariant-loop-i l = (l.i-end ≡ length l.initial.s) × (l.i ≤ l.i-end) × (length l.s ≡ length l.initial.s) × (l.s ≡ run (each (λ k. (field_of l.f).mul l.z)) l.i l.initial.s)
-
-abbrev pub decreases-loop-i : goal.decreases-loop-i
-decreases-loop-i l = l.i-end - l.i
+abbrev pub invariant-loop-x : goal.invariant-loop-x
+invariant-loop-x l = l.s ≡ run (each (λ k. (field_of l.f).mul l.z)) l.x-index l.initial.s

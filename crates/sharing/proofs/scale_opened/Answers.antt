@@ -7,6 +7,3 @@ use Rattle.sharing.proofs.scale_opened.Goals as goal
 pub returns-then-f-eq16 : goal.returns-then-f-eq16
 unfolding field_of
 returns-then-f-eq16 c = rw (eq-eqb c.args.f 16 c.if-f-eq16.true) c.look_up16.ensures
-
-pub returns-else-f-eq16 : goal.returns-else-f-eq16
-returns-else-f-eq16 c = c.scale.ensures

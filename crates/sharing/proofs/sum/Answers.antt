@@ -1,29 +1,21 @@
--- `sharing::sum` meets its contract. The loop's invariant: v is the sum of the shares from place i on.
+-- `sharing::sum` meets its contract: a turn of the loop sums the last of what is left.
 -- Assumes nothing.
-use native.Mathlib.Omega.{arith}
-use mathlib.Core.Path.{◌≡◌, ◌∙◌, sym, ap}
-use Prim.Native.Nat.{ℕ, suc, ◌-◌, ◌<◌, ◌≤◌}
-use lib.ListN.{length, get_or, drop}
-use lib.Seq.{drop-cons, drop-length}
-use Rattle.sharing.specs.Rules.{sum}
-use Rattle.field.specs.Field.{field_of, Ops}
-use mathlib.Core.List.{List}
-use borrow.Author.Rules.{rules}
+use Rattle.std.proofs.Common.{ℕ, sym, ap, ◌∙◌}
+use Rattle.field.specs.Field.{field_of}
+use Rattle.sharing.proofs.Sums.{onto, onto-sum, onto-none, onto-last}
 use Rattle.sharing.proofs.sum.Goals as goal
 
-next : (F : Ops) (s : List ℕ) (i k x v : ℕ) → i ≡ suc k → i ≤ length s → v ≡ sum F (drop i s) → x ≡ F.add (get_or s k 0) v → x ≡ sum F (drop k s)
-unfolding sum
-next F s i k x v e l p q =
-    let h : k < length s = omega arith in
-    rw (drop-cons s k 0 h, ← e) (q ∙ ap (F.add (get_or s k 0)) p)
+pub loop-x-init : goal.loop-x-init
+loop-x-init c =
+    rw (c.into_iter-x-iterator.ensures.into_iter_gives, c.rev-x-items.ensures.source, c.iter.ensures.rest) (onto-sum _ _)
 
-pub loop-i-init : goal.loop-i-init
-unfolding sum
-loop-i-init c = let x = c.args in (search rules, ap (sum (field_of x.f)) (sym (drop-length x.s.now)))
-
-pub loop-i-preserved : goal.loop-i-preserved
-loop-i-preserved c = let l = c.loop-i in
-    (search rules, next _ _ l.i (l.i - 1) _ l.v (omega arith) (omega arith) l.invariant.1 c.add-v.ensures)
+pub loop-x-preserved : goal.loop-x-preserved
+loop-x-preserved c =
+    let F = field_of c.args.f in
+    let l = c.loop-x in
+    let left = c.next.new.self.iter.rest.now in
+    ap (λ (v : ℕ). onto F v left) c.add-v.ensures
+    ∙ sym (onto-last F l.v c.in-Some.x.now left) ∙ ap (onto F l.v) (sym (c.in-Some.ensures.steps)) ∙ l.invariant
 
 pub returns : goal.returns
-returns c = let e : c.loop-i.i ≡ 0 = omega arith in rw e at c.loop-i.invariant.1
+returns c = sym (onto-none _ _ _ (c.in-None.ensures.steps.0)) ∙ c.loop-x.invariant

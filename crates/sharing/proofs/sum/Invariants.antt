@@ -1,14 +1,10 @@
--- `sharing::sum` meets its contract. The loop's invariant: v is the sum of the shares from place i on.
+-- `sharing::sum` meets its contract. The loop's invariant: what is left to sum and v are the whole sum.
 -- Assumes nothing.
-use mathlib.Core.Path.{◌≡◌}
-use Prim.Native.Nat.{◌≤◌}
-use lib.ListN.{length, drop}
-use Rattle.sharing.specs.Rules.{sum}
+use Rattle.std.proofs.Common.{◌≡◌}
 use Rattle.field.specs.Field.{field_of}
+use Rattle.sharing.specs.Rules.{sum}
+use Rattle.sharing.proofs.Sums.{onto}
 use Rattle.sharing.proofs.sum.Given as goal
 
-abbrev pub invariant-loop-i : goal.invariant-loop-i
-invariant-loop-i l = (l.i ≤ length l.s) × (l.v ≡ sum (field_of l.f) (drop l.i l.s))
-
-abbrev pub decreases-loop-i : goal.decreases-loop-i
-decreases-loop-i l = l.i
+abbrev pub invariant-loop-x : goal.invariant-loop-x
+invariant-loop-x l = onto (field_of l.f) l.v l.x-iterator.iter.rest.now ≡ sum (field_of l.f) l.s

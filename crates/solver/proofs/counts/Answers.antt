@@ -1,20 +1,19 @@
 -- `solver::counts` meets its contract: its checks are the sizes, and a pass gives the sums over the step list.
 -- Assumes nothing.
-use mathlib.Core.Path.{ap, ◌∙◌}
-use Rattle.verdict.specs.Calls.{after, gives}
+use Rattle.std.proofs.Common.{rules}
+use Rattle.verdict.specs.Calls.{call}
 use Rattle.solver.specs.Calls.{counts_call}
-use Rattle.solver.proofs.Ready.{sized}
 use Rattle.verdict.proofs.Verdicts.{passes}
-use Rattle.verdict.proofs.Calls.{refuses_call, passes_call}
+use Rattle.solver.proofs.Ready.{sized}
 use Rattle.solver.proofs.counts.Goals as goal
 
+pub returns-in_err-sizes : goal.returns-in_err-sizes
+unfolding counts_call call
+returns-in_err-sizes c = search rules
+
 pub full_counts-requires : goal.full_counts-requires
-full_counts-requires c = sized _ (passes _ _ c.sizes.ensures c.in-Pass.is)
+full_counts-requires c = sized _ (passes _ _ _ c.sizes.ensures c.in_ok-sizes.was)
 
-pub returns-in-Refuse : goal.returns-in-Refuse
-unfolding counts_call
-returns-in-Refuse c = refuses_call _ _ _ _ _ c.sizes.ensures c.in-Refuse.is
-
-pub returns-in-Pass : goal.returns-in-Pass
-unfolding counts_call
-returns-in-Pass c = ap (λ k. after (gives k) tt) c.full_counts.ensures ∙ passes_call _ _ _ _ c.sizes.ensures c.in-Pass.is
+pub returns : goal.returns
+unfolding counts_call call
+returns c = search rules

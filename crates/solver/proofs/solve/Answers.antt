@@ -1,39 +1,33 @@
 -- `solver::solve` meets its contract: a pass gives the work what it asks for, and what meets the equation has its meaning and its counters.
 -- Assumes nothing.
-use mathlib.Core.Path.{◌≡◌, ◌∙◌}
+use Rattle.std.proofs.Common.{rules}
+use mathlib.Core.Path.{◌≡◌, ap, ◌∙◌}
 use Rattle.walk.specs.Act.{held}
-use Rattle.verdict.specs.Calls.{after}
-use Rattle.solver.specs.Calls.{order, solve_call, solve_says}
-use Rattle.solver.proofs.Meaning.{means, takes}
-use Rattle.verdict.proofs.Calls.{refuses_call, passes_call}
-use Rattle.solver.proofs.Calls.{solve_done}
-use Rattle.solver.proofs.Ready.{solvable, solve_ready}
+use Rattle.verdict.specs.Calls.{call, after, gives}
+use Rattle.solver.specs.Calls.{order, solve_does, solve_call}
 use Rattle.verdict.proofs.Verdicts.{passes}
+use Rattle.verdict.proofs.Calls.{passes_call}
+use Rattle.solver.proofs.Meaning.{means, takes}
+use Rattle.solver.proofs.Ready.{solvable, solve_ready}
 use Rattle.solver.proofs.solve.Goals as goal
 
-pub solve-requires-in-Pass : goal.solve-requires-in-Pass
-solve-requires-in-Pass c =
-    let d = solve_ready (solvable _ _ _ _ _ (passes _ _ c.solve.ensures c.in-Pass.is)) in
+pub returns-in_err-solve-clause-outcome : goal.returns-in_err-solve-clause-outcome
+unfolding solve_call call
+returns-in_err-solve-clause-outcome c = search rules
+
+pub solve-requires-2 : goal.solve-requires-2
+solve-requires-2 c =
+    let d = solve_ready (solvable _ _ _ _ _ (passes _ _ _ c.solve.ensures c.in_ok-solve.was)) in
     record { sizes = d.0; table_len = d.1.0; o_in_bounds = d.1.1 }
 
-pub returns-in-Refuse : goal.returns-in-Refuse
+pub returns : goal.returns
 unfolding solve_call
-returns-in-Refuse c =
-    let e = refuses_call _ _ _ _ _ c.solve.ensures c.in-Refuse.is in
-    record {
-      outcome = e;
-      meaning = tt;
-      counters = tt;
-    }
-
-pub returns-in-Pass : goal.returns-in-Pass
-unfolding solve_call
-returns-in-Pass c =
+returns c =
     let a = c.args in
     let o = order a.field a.shares a.size in
-    let h = held c.solve-in-Pass.new.table c.solve-in-Pass.new.solution in
-    let e : after (solve_says c.ending.result) h ≡ solve_call o (held a.table.now a.solution.now) a.mask.now a.nonzero.now =
-    solve_done _ _ _ _ _ c.ending.ensures c.solve-in-Pass.ensures ∙ passes_call _ _ _ _ c.solve.ensures c.in-Pass.is in
+    let h = held c.solve-2.new.table c.solve-2.new.solution in
+    let e : after (gives c.solve-2.result) h ≡ solve_call o (held a.table.now a.solution.now) a.mask.now a.nonzero.now =
+    ap solve_does c.solve-2.ensures ∙ passes_call _ _ _ _ _ c.solve.ensures c.in_ok-solve.was in
     record {
       outcome = e;
       meaning = means o a.table.now a.solution.now a.mask.now a.nonzero.now _ h e;

@@ -1,15 +1,14 @@
 -- `solver::start` meets its contract: its checks are the sizes, and a pass gives the record at the first place.
 -- Assumes nothing.
-use mathlib.Core.Path.{ap, ◌∙◌}
-use Rattle.verdict.specs.Calls.{after, gives}
+use Rattle.std.proofs.Common.{rules}
+use Rattle.verdict.specs.Calls.{call}
 use Rattle.solver.specs.Calls.{start_call}
-use Rattle.verdict.proofs.Calls.{refuses_call, passes_call}
 use Rattle.solver.proofs.start.Goals as goal
 
-pub returns-in-Refuse : goal.returns-in-Refuse
-unfolding start_call
-returns-in-Refuse c = refuses_call _ _ _ _ _ c.sizes.ensures c.in-Refuse.is
+pub returns-in_err-sizes : goal.returns-in_err-sizes
+unfolding start_call call
+returns-in_err-sizes c = search rules
 
-pub returns-in-Pass : goal.returns-in-Pass
-unfolding start_call
-returns-in-Pass c = ap (λ p. after (gives p) tt) c.start.ensures ∙ passes_call _ _ _ _ c.sizes.ensures c.in-Pass.is
+pub returns : goal.returns
+unfolding start_call call
+returns c = search rules

@@ -1,25 +1,22 @@
--- `solver::wanted` meets its contract: a pass gives what the costs of a place ask for.
+-- `solver::wanted` meets its contract: a pass gives the draws of the place.
 -- Assumes nothing.
-use mathlib.Core.Path.{ap, ◌∙◌}
-use Rattle.course.specs.declared.Draws.{Draws}
-use Rattle.verdict.specs.Calls.{after, gives}
+use Rattle.std.proofs.Common.{rules}
+use Rattle.verdict.specs.Calls.{call}
 use Rattle.solver.specs.Calls.{wanted_call}
-use Rattle.verdict.proofs.Calls.{refuses_call, passes_call}
-use Rattle.solver.proofs.Ready.{wanting}
 use Rattle.verdict.proofs.Verdicts.{passes}
+use Rattle.solver.proofs.Ready.{wanting}
 use Rattle.solver.proofs.wanted.Goals as goal
 
-pub cost_at-d-requires : goal.cost_at-d-requires
-cost_at-d-requires c =
-    let w = wanting _ (passes _ _ c.wanted.ensures c.in-Pass.is) in
-    record { sizes = w.0; p_value = w.1.listed }
+pub returns-in_err-wanted : goal.returns-in_err-wanted
+unfolding wanted_call call
+returns-in_err-wanted c = search rules
 
-pub returns-in-Refuse : goal.returns-in-Refuse
-unfolding wanted_call
-returns-in-Refuse c = refuses_call _ _ _ _ _ c.wanted.ensures c.in-Refuse.is
+pub cost_at-requires-clause-sizes : goal.cost_at-requires-clause-sizes
+cost_at-requires-clause-sizes c = rw c.order.ensures (wanting _ (passes _ _ _ c.wanted.ensures c.in_ok-wanted.was)).0
 
-pub returns-in-Pass : goal.returns-in-Pass
-unfolding wanted_call
-returns-in-Pass c =
-    ap (λ (d : Draws). after (gives d) tt) c.cost_at-d.ensures
-    ∙ passes_call _ _ _ _ c.wanted.ensures c.in-Pass.is
+pub cost_at-requires-clause-p_value : goal.cost_at-requires-clause-p_value
+cost_at-requires-clause-p_value c = rw c.order.ensures (wanting _ (passes _ _ _ c.wanted.ensures c.in_ok-wanted.was)).1.listed
+
+pub returns : goal.returns
+unfolding wanted_call call
+returns c = search rules

@@ -1,62 +1,40 @@
 -- `table::clear` meets its contract: T[k,j] is copied before its row changes, and the copy is the factor.
 -- Assumes nothing.
-use mathlib.Core.Path.{◌≡◌, ◌∙◌, sym}
+use mathlib.Core.Path.{◌≡◌, ◌∙◌}
 use Prim.Native.Nat.{◌+◌, ◌≤◌}
 use native.Mathlib.Omega.{arith}
-use lib.ListN.{length, length-append}
+use lib.ListN.{length}
 use lib.Seq.{length-take-le, take_at}
 use Rattle.table.specs.Steps.{clear}
 use Rattle.table.specs.Costs.{clear_cost}
 use Rattle.table.proofs.Parts.{part-lent}
 use Rattle.table.proofs.Cells.{cell_in}
-use Rattle.table.proofs.Lent.{lent_length}
 use borrow.Author.Rules.{rules}
 use Rattle.table.proofs.clear.Goals as goal
 
-pub slice_bounds-copy_into-end : goal.slice_bounds-copy_into-end
-slice_bounds-copy_into-end c = sym (length-take-le _ _ (omega arith))
-
 pub overflow_add-p : goal.overflow_add-p
 overflow_add-p c =
-    let within : c.cell-p.result + c.args.n ≤ length c.args.table.now =
-    omega (arith, cell_in c.args.n c.requires.inside.1) in
+    let within : c.cell-p.result + c.args.shape.shares ≤ length c.args.table.now =
+    omega (arith, cell_in c.args.shape.shares c.requires.inside.1) in
     omega (arith, within)
 
 pub slice_bounds-copy_into-end-2 : goal.slice_bounds-copy_into-end-2
 slice_bounds-copy_into-end-2 c =
-    let within : c.cell-p.result + c.args.n ≤ length c.args.table.now =
-    omega (arith, cell_in c.args.n c.requires.inside.1) in
+    let within : c.cell-p.result + c.args.shape.shares ≤ length c.args.table.now =
+    omega (arith, cell_in c.args.shape.shares c.requires.inside.1) in
     omega (arith, within)
 
-pub copy_into-requires : goal.copy_into-requires
-copy_into-requires c =
-    let within : c.cell-p.result + c.args.n ≤ length c.args.table.now =
-    omega (arith, cell_in c.args.n c.requires.inside.1) in
-    rw (lent_length _ _ _ within) (length-take-le _ _ (omega arith))
-
-pub slice_bounds-copy-end-2 : goal.slice_bounds-copy-end-2
-slice_bounds-copy-end-2 c =
-    let copied : length c.copy_into.new.dst ≡ c.args.n =
-    c.copy_into.auto.dst ∙ length-take-le _ _ (omega arith) in
-    simp length-append (omega (arith, copied))
-
-pub slice_bounds-join_rows-end : goal.slice_bounds-join_rows-end
-slice_bounds-join_rows-end c =
-    let copied : length c.copy_into.new.dst ≡ c.args.n =
-    c.copy_into.auto.dst ∙ length-take-le _ _ (omega arith) in
-    let e = copied in rw (take_at _ _ _ e) (sym e)
-
-pub join_rows-requires : goal.join_rows-requires
+pub join_rows-requires-clause-factor_len : goal.join_rows-requires-clause-factor_len
 unfolding clear_cost
-join_rows-requires c =
-    let copied : length c.copy_into.new.dst ≡ c.args.n =
+join_rows-requires-clause-factor_len c =
+    let copied : length c.copy_into.new.dst ≡ c.args.shape.shares =
     c.copy_into.auto.dst ∙ length-take-le _ _ (omega arith) in
-    let e = copied in rw (take_at _ _ _ e) (record { bounded = search rules; inside = search rules; table_len = (search rules, e, search rules) })
+    let e = copied in rw (take_at _ _ _ e) (e, search rules)
 
 pub returns : goal.returns
 unfolding clear
 returns c =
-    let copied : length c.copy_into.new.dst ≡ c.args.n =
+    let copied : length c.copy_into.new.dst ≡ c.args.shape.shares =
     c.copy_into.auto.dst ∙ length-take-le _ _ (omega arith) in
     let x = c.args in
-    rw (take_at _ _ _ copied, c.copy_into.ensures, part-lent x.n c.cell-p.result x.table.now, c.cell-p.ensures) at c.join_rows.ensures
+    rw (take_at _ _ _ copied, c.copy_into.ensures, part-lent x.shape.shares c.cell-p.result x.table.now, c.cell-p.ensures) at c.join_rows.ensures

@@ -16,7 +16,6 @@ use Rattle.table.specs.Layout.{columns_from}
 use Rattle.table.specs.Steps.{join_rows}
 use Rattle.table.specs.Code.Joining.{join_part}
 use Rattle.table.proofs.Cells.{row_in, row_apart}
-use Rattle.table.proofs.Lent.{rest_room}
 use Rattle.table.proofs.Joining.{join-add}
 use Rattle.table.proofs.join_rows.Goals as goal
 use Rattle.table.proofs.join_rows.Goals.{then-columns-gt-MOST_WIDTH, else-columns-gt-MOST_WIDTH}
@@ -29,7 +28,6 @@ parts columns n h =
     ap (λ (k : ℕ). k * n) e ∙ add-mul most_width (columns - most_width) n
 
 -- ---- the first k columns, of a table s that t has become
-
 record First (F : Ops) (minus : Bool) (n columns p o : ℕ) (factor ds t : List ℕ) (k : ℕ) (s : List ℕ) : Type 0 where
   some : 1 ≤ k
   most : k ≤ most_width
@@ -56,86 +54,52 @@ module _ {F : Ops} {minus : Bool} {n columns p o : ℕ} {factor ds t : List ℕ}
             (rw e at (join-add F minus n factor t most_width (columns - most_width) p o ds (rw e g) (rw e apart)));
       }
 
-pub overflow_mul-d : goal.overflow_mul-d
-overflow_mul-d c =
-    let draws : most_width * c.pair_count.result + (columns_from c.args.w c.args.j - most_width) * pairs c.args.n ≤ length c.args.mask.now =
-    let x = c.args in omega (arith, parts (columns_from x.w x.j) (pairs x.n) c.if-columns-gt-MOST_WIDTH.true) in
-    omega (arith, draws)
-
 pub overflow_add-p : goal.overflow_add-p
-overflow_add-p c =
-    let row-a : c.cell-p.result + columns_from c.args.w c.args.j * c.args.n ≤ length c.args.table.now =
-    omega (arith, row_in c.args.n c.requires.inside.0) in
-    let row-b : c.cell-o.result + columns_from c.args.w c.args.j * c.args.n ≤ length c.args.table.now =
-    omega (arith, row_in c.args.n c.requires.inside.1) in
-    let within : (c.cell-p.result + (most_width * c.args.n + (columns_from c.args.w c.args.j - most_width) * c.args.n) ≤ length c.args.table.now) × (c.cell-o.result + (most_width * c.args.n + (columns_from c.args.w c.args.j - most_width) * c.args.n) ≤ length c.args.table.now) =
-    let x = c.args in rw (← parts (columns_from x.w x.j) x.n c.if-columns-gt-MOST_WIDTH.true) (row-a, row-b) in
+overflow_add-p g c =
+    let row-a : c.cell-p.result + columns_from c.args.shape.columns c.args.j * c.args.shape.shares ≤ length c.args.table.now =
+    omega (arith, row_in c.args.shape.shares c.requires.inside.0) in
+    let row-b : c.cell-o.result + columns_from c.args.shape.columns c.args.j * c.args.shape.shares ≤ length c.args.table.now =
+    omega (arith, row_in c.args.shape.shares c.requires.inside.1) in
+    let within : (c.cell-p.result + (most_width * c.args.shape.shares + (columns_from c.args.shape.columns c.args.j - most_width) * c.args.shape.shares) ≤ length c.args.table.now) × (c.cell-o.result + (most_width * c.args.shape.shares + (columns_from c.args.shape.columns c.args.j - most_width) * c.args.shape.shares) ≤ length c.args.table.now) =
+    let x = c.args in rw (← parts (columns_from x.shape.columns x.j) x.shape.shares c.if-columns-gt-MOST_WIDTH.true) (row-a, row-b) in
     omega (arith, within.0)
 
 pub overflow_add-o : goal.overflow_add-o
-overflow_add-o c =
-    let row-a : c.cell-p.result + columns_from c.args.w c.args.j * c.args.n ≤ length c.args.table.now =
-    omega (arith, row_in c.args.n c.requires.inside.0) in
-    let row-b : c.cell-o.result + columns_from c.args.w c.args.j * c.args.n ≤ length c.args.table.now =
-    omega (arith, row_in c.args.n c.requires.inside.1) in
-    let within : (c.cell-p.result + (most_width * c.args.n + (columns_from c.args.w c.args.j - most_width) * c.args.n) ≤ length c.args.table.now) × (c.cell-o.result + (most_width * c.args.n + (columns_from c.args.w c.args.j - most_width) * c.args.n) ≤ length c.args.table.now) =
-    let x = c.args in rw (← parts (columns_from x.w x.j) x.n c.if-columns-gt-MOST_WIDTH.true) (row-a, row-b) in
+overflow_add-o g c =
+    let row-a : c.cell-p.result + columns_from c.args.shape.columns c.args.j * c.args.shape.shares ≤ length c.args.table.now =
+    omega (arith, row_in c.args.shape.shares c.requires.inside.0) in
+    let row-b : c.cell-o.result + columns_from c.args.shape.columns c.args.j * c.args.shape.shares ≤ length c.args.table.now =
+    omega (arith, row_in c.args.shape.shares c.requires.inside.1) in
+    let within : (c.cell-p.result + (most_width * c.args.shape.shares + (columns_from c.args.shape.columns c.args.j - most_width) * c.args.shape.shares) ≤ length c.args.table.now) × (c.cell-o.result + (most_width * c.args.shape.shares + (columns_from c.args.shape.columns c.args.j - most_width) * c.args.shape.shares) ≤ length c.args.table.now) =
+    let x = c.args in rw (← parts (columns_from x.shape.columns x.j) x.shape.shares c.if-columns-gt-MOST_WIDTH.true) (row-a, row-b) in
     omega (arith, within.1)
 
-pub slice_bounds-join_part-count : goal.slice_bounds-join_part-count
-slice_bounds-join_part-count c =
-    let draws : most_width * c.pair_count.result + (columns_from c.args.w c.args.j - most_width) * pairs c.args.n ≤ length c.args.mask.now =
-    let x = c.args in omega (arith, parts (columns_from x.w x.j) (pairs x.n) c.if-columns-gt-MOST_WIDTH.true) in
-    omega (arith, draws)
+pub join_part-requires-clause-n_in_bounds : goal.join_part-requires-clause-n_in_bounds
+join_part-requires-clause-n_in_bounds g c =
+    let row-a : c.cell-p.result + columns_from c.args.shape.columns c.args.j * c.args.shape.shares ≤ length c.args.table.now =
+    omega (arith, row_in c.args.shape.shares c.requires.inside.0) in
+    let row-b : c.cell-o.result + columns_from c.args.shape.columns c.args.j * c.args.shape.shares ≤ length c.args.table.now =
+    omega (arith, row_in c.args.shape.shares c.requires.inside.1) in
+    let within : (c.cell-p.result + (most_width * c.args.shape.shares + (columns_from c.args.shape.columns c.args.j - most_width) * c.args.shape.shares) ≤ length c.args.table.now) × (c.cell-o.result + (most_width * c.args.shape.shares + (columns_from c.args.shape.columns c.args.j - most_width) * c.args.shape.shares) ≤ length c.args.table.now) =
+    let x = c.args in rw (← parts (columns_from x.shape.columns x.j) x.shape.shares c.if-columns-gt-MOST_WIDTH.true) (row-a, row-b) in
+    (omega (arith, within.0), omega (arith, within.1))
 
-pub slice_bounds-join_part-start : goal.slice_bounds-join_part-start
-slice_bounds-join_part-start c =
-    let draws : most_width * c.pair_count.result + (columns_from c.args.w c.args.j - most_width) * pairs c.args.n ≤ length c.args.mask.now =
-    let x = c.args in omega (arith, parts (columns_from x.w x.j) (pairs x.n) c.if-columns-gt-MOST_WIDTH.true) in
-    omega (arith, draws)
-
-pub join_part-requires : goal.join_part-requires
-join_part-requires c =
-    let row-a : c.cell-p.result + columns_from c.args.w c.args.j * c.args.n ≤ length c.args.table.now =
-    omega (arith, row_in c.args.n c.requires.inside.0) in
-    let row-b : c.cell-o.result + columns_from c.args.w c.args.j * c.args.n ≤ length c.args.table.now =
-    omega (arith, row_in c.args.n c.requires.inside.1) in
-    let within : (c.cell-p.result + (most_width * c.args.n + (columns_from c.args.w c.args.j - most_width) * c.args.n) ≤ length c.args.table.now) × (c.cell-o.result + (most_width * c.args.n + (columns_from c.args.w c.args.j - most_width) * c.args.n) ≤ length c.args.table.now) =
-    let x = c.args in rw (← parts (columns_from x.w x.j) x.n c.if-columns-gt-MOST_WIDTH.true) (row-a, row-b) in
-    let draws : most_width * c.pair_count.result + (columns_from c.args.w c.args.j - most_width) * pairs c.args.n ≤ length c.args.mask.now =
-    let x = c.args in omega (arith, parts (columns_from x.w x.j) (pairs x.n) c.if-columns-gt-MOST_WIDTH.true) in
-    let q = c.requires in record {
-      le_n = (q.bounded.shares_low, q.bounded.fits.shares_high, omega arith, omega arith, q.table_len.1, rest_room _ _ c.args.mask.now draws);
-      n_in_bounds = (omega (arith, within.0), omega (arith, within.1));
-    }
-
-pub join_part-requires-2 : goal.join_part-requires-2
-join_part-requires-2 c =
-    let row-a : c.cell-p.result + columns_from c.args.w c.args.j * c.args.n ≤ length c.args.table.now =
-    omega (arith, row_in c.args.n c.requires.inside.0) in
-    let row-b : c.cell-o.result + columns_from c.args.w c.args.j * c.args.n ≤ length c.args.table.now =
-    omega (arith, row_in c.args.n c.requires.inside.1) in
-    let first : First (field_of c.args.f) c.args.minus c.args.n (columns_from c.args.w c.args.j) c.cell-p.result c.cell-o.result c.args.factor.now c.args.mask.now c.args.table.now c.if-columns-gt-MOST_WIDTH.k c.if-columns-gt-MOST_WIDTH.table =
+pub join_part-requires-2-clause-n_in_bounds : goal.join_part-requires-2-clause-n_in_bounds
+join_part-requires-2-clause-n_in_bounds g c =
+    let row-a : c.cell-p.result + columns_from c.args.shape.columns c.args.j * c.args.shape.shares ≤ length c.args.table.now =
+    omega (arith, row_in c.args.shape.shares c.requires.inside.0) in
+    let row-b : c.cell-o.result + columns_from c.args.shape.columns c.args.j * c.args.shape.shares ≤ length c.args.table.now =
+    omega (arith, row_in c.args.shape.shares c.requires.inside.1) in
+    let first : First (field_of c.args.shape.field) g.S.Sign.minus c.args.shape.shares (columns_from c.args.shape.columns c.args.j) c.cell-p.result c.cell-o.result c.args.factor.now c.args.mask.now c.args.table.now c.if-columns-gt-MOST_WIDTH.k c.if-columns-gt-MOST_WIDTH.table =
     let q = c.requires.inside in elim c.if-columns-gt-MOST_WIDTH.branch [ then-columns-gt-MOST_WIDTH w ↦ wide w.pair_count.result w.if-columns-gt-MOST_WIDTH.true row-a (rw (c.cell-p.ensures, c.cell-o.ensures) (row_apart _ q.1 q.0)) (ap length w.table-is ∙ w.join_part.auto.table) w.pair_count.ensures (w.table-is ∙ w.join_part.ensures) w.k-is | else-columns-gt-MOST_WIDTH w ↦ narrow (omega arith) w.if-columns-gt-MOST_WIDTH.false w.table-is w.k-is ] in
     let d = first in
-    let q = c.requires in record {
-      le_n = (q.bounded.shares_low, q.bounded.fits.shares_high, d.some, d.most, q.table_len.1, omega (arith, d.fits (pairs c.args.n)));
-      n_in_bounds = (omega (arith, row-a, d.fits c.args.n), omega (arith, row-b, d.fits c.args.n));
-    }
-
-pub shape_of-table : goal.shape_of-table
-shape_of-table c =
-    let row-a : c.cell-p.result + columns_from c.args.w c.args.j * c.args.n ≤ length c.args.table.now =
-    omega (arith, row_in c.args.n c.requires.inside.0) in
-    let first : First (field_of c.args.f) c.args.minus c.args.n (columns_from c.args.w c.args.j) c.cell-p.result c.cell-o.result c.args.factor.now c.args.mask.now c.args.table.now c.if-columns-gt-MOST_WIDTH.k c.if-columns-gt-MOST_WIDTH.table =
-    let q = c.requires.inside in elim c.if-columns-gt-MOST_WIDTH.branch [ then-columns-gt-MOST_WIDTH w ↦ wide w.pair_count.result w.if-columns-gt-MOST_WIDTH.true row-a (rw (c.cell-p.ensures, c.cell-o.ensures) (row_apart _ q.1 q.0)) (ap length w.table-is ∙ w.join_part.auto.table) w.pair_count.ensures (w.table-is ∙ w.join_part.ensures) w.k-is | else-columns-gt-MOST_WIDTH w ↦ narrow (omega arith) w.if-columns-gt-MOST_WIDTH.false w.table-is w.k-is ] in
-    c.join_part-2.auto.table ∙ first.size
+    (omega (arith, row-a, d.fits c.args.shape.shares), omega (arith, row-b, d.fits c.args.shape.shares))
 
 pub returns : goal.returns
 unfolding join_rows join_part
-returns c =
-    let row-a : c.cell-p.result + columns_from c.args.w c.args.j * c.args.n ≤ length c.args.table.now =
-    omega (arith, row_in c.args.n c.requires.inside.0) in
-    let first : First (field_of c.args.f) c.args.minus c.args.n (columns_from c.args.w c.args.j) c.cell-p.result c.cell-o.result c.args.factor.now c.args.mask.now c.args.table.now c.if-columns-gt-MOST_WIDTH.k c.if-columns-gt-MOST_WIDTH.table =
+returns g c =
+    let row-a : c.cell-p.result + columns_from c.args.shape.columns c.args.j * c.args.shape.shares ≤ length c.args.table.now =
+    omega (arith, row_in c.args.shape.shares c.requires.inside.0) in
+    let first : First (field_of c.args.shape.field) g.S.Sign.minus c.args.shape.shares (columns_from c.args.shape.columns c.args.j) c.cell-p.result c.cell-o.result c.args.factor.now c.args.mask.now c.args.table.now c.if-columns-gt-MOST_WIDTH.k c.if-columns-gt-MOST_WIDTH.table =
     let q = c.requires.inside in elim c.if-columns-gt-MOST_WIDTH.branch [ then-columns-gt-MOST_WIDTH w ↦ wide w.pair_count.result w.if-columns-gt-MOST_WIDTH.true row-a (rw (c.cell-p.ensures, c.cell-o.ensures) (row_apart _ q.1 q.0)) (ap length w.table-is ∙ w.join_part.auto.table) w.pair_count.ensures (w.table-is ∙ w.join_part.ensures) w.k-is | else-columns-gt-MOST_WIDTH w ↦ narrow (omega arith) w.if-columns-gt-MOST_WIDTH.false w.table-is w.k-is ] in
     c.join_part-2.ensures ∙ first.whole ∙ rw (c.cell-p.ensures, c.cell-o.ensures)

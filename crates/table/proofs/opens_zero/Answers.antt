@@ -14,21 +14,21 @@ use Rattle.table.proofs.opens_zero.Goals as goal
 
 pub overflow_add-p : goal.overflow_add-p
 overflow_add-p c =
-    let within : c.cell-p.result + c.args.n ≤ length c.args.table.now =
-    omega (arith, c.cell-p.ensures, cell_in c.args.n c.requires.inside, c.requires.table_len.0) in
+    let within : c.cell-p.result + c.args.shape.shares ≤ length c.args.table.now =
+    omega (arith, c.cell-p.ensures, cell_in c.args.shape.shares c.requires.inside, c.requires.shaped.bytes) in
     omega (arith, within)
 
 pub slice_bounds-blinded_value-end : goal.slice_bounds-blinded_value-end
 slice_bounds-blinded_value-end c =
-    let within : c.cell-p.result + c.args.n ≤ length c.args.table.now =
-    omega (arith, c.cell-p.ensures, cell_in c.args.n c.requires.inside, c.requires.table_len.0) in
+    let within : c.cell-p.result + c.args.shape.shares ≤ length c.args.table.now =
+    omega (arith, c.cell-p.ensures, cell_in c.args.shape.shares c.requires.inside, c.requires.shaped.bytes) in
     omega (arith, within)
 
 pub blinded_value-requires : goal.blinded_value-requires
 unfolding scale_nonzero
 blinded_value-requires c =
-    rw (part-lent, c.cell-p.ensures, entry_length _ _ _ _ c.requires.table_len.0 c.requires.inside)
-    (omega (arith, scale_cost_is c.args.n (columns_from c.args.w c.args.j)))
+    rw (part-lent, c.cell-p.ensures, entry_length _ _ _ _ c.requires.shaped.bytes c.requires.inside)
+    (omega (arith, scale_cost_is c.args.shape.shares (columns_from c.args.shape.columns c.args.j)))
 
 pub returns : goal.returns
 returns c = ap (λ (u : ℕ). eqb u 0) (rw (part-lent, c.cell-p.ensures) at c.blinded_value.ensures)

@@ -5,7 +5,7 @@ use Prim.Native.Nat.{◌+◌, ◌-◌, ◌*◌, ◌≤◌}
 use native.Mathlib.Omega.{arith}
 use Rattle.sharing.specs.Bounds.{most_draws}
 use Rattle.table.specs.Costs.{scale_cost}
-use Rattle.table.proofs.CostBounds.{few, scale_few}
+use Rattle.table.proofs.CostBounds.{scale_few}
 use Rattle.table.proofs.scale_cost.Goals as goal
 use Rattle.table.proofs.scale_cost.Goals.{After-inversion_draws}
 
@@ -15,15 +15,6 @@ scale-is c = simp c.inversion_draws.ensures.0
 
 scale-within : (c : After-inversion_draws) → let n = c.args.n in c.inversion_draws.result + n * (n - 1) * c.args.l ≤ most_draws
 scale-within c = rw (scale-is c) (scale_few c.args.n c.args.l (omega arith) (omega arith))
-
-pub overflow_mul-result : goal.overflow_mul-result
-overflow_mul-result c = omega (arith, (few c.args.n (omega arith)).product)
-
-pub overflow_mul-result-2 : goal.overflow_mul-result-2
-overflow_mul-result-2 c = omega (arith, scale-within c)
-
-pub overflow_add-result : goal.overflow_add-result
-overflow_add-result c = omega (arith, scale-within c)
 
 pub returns : goal.returns
 returns c = (scale-is c, scale-within c)

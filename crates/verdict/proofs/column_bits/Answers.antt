@@ -8,11 +8,11 @@ use Rattle.verdict.specs.Code.Scan.{column_bits}
 use Rattle.verdict.proofs.column_bits.Goals as goal
 
 pub loop-i-init : goal.loop-i-init
-loop-i-init c = (search rules, omega arith, run_none _ _)
+loop-i-init c = (search rules, run_none _ _)
 
 pub loop-i-preserved : goal.loop-i-preserved
-loop-i-preserved c = let l = c.loop-i in (search rules, omega (arith, l.invariant.1), run-next _ _ _ _ _ l.invariant.2 (rw (← l.invariant.1) refl))
+loop-i-preserved c = (search rules, run-next _ _ _ _ _ c.loop-i.invariant.1 refl)
 
 pub returns : goal.returns
 unfolding column_bits
-returns c = run_done _ _ _ _ _ c.loop-i.invariant.2 (omega arith)
+returns c = run_done _ _ _ _ _ c.loop-i.invariant.1 (omega arith)

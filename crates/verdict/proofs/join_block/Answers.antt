@@ -9,11 +9,11 @@ use Rattle.verdict.specs.Code.Scan.{block_bits}
 use Rattle.verdict.proofs.join_block.Goals as goal
 
 pub loop-q-init : goal.loop-q-init
-loop-q-init c = (search rules, search rules, run_none _ _)
+loop-q-init c = (search rules, run_none _ _)
 
 pub loop-q-preserved : goal.loop-q-preserved
-loop-q-preserved c = let l = c.loop-q in (search rules, simp length-set l.invariant.1, run-next _ _ _ _ _ l.invariant.2 (rw c.column_bits.ensures refl))
+loop-q-preserved c = let l = c.loop-q in (simp length-set l.invariant.0, run-next _ _ _ _ _ l.invariant.1 (rw c.column_bits.ensures refl))
 
 pub returns : goal.returns
 unfolding block_bits
-returns c = run_done _ _ _ _ _ c.loop-q.invariant.2 (omega arith)
+returns c = run_done _ _ _ _ _ c.loop-q.invariant.1 (omega arith)

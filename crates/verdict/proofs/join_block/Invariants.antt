@@ -1,14 +1,10 @@
 -- `join_block` meets its contract. The loop's invariant: the lanes are a run of the turns so far.
 -- Assumes nothing.
 use mathlib.Core.Path.{◌≡◌}
-use Prim.Native.Nat.{◌-◌, ◌≤◌}
 use lib.ListN.{length}
 use Rattle.sharing.specs.Run.{run}
 use Rattle.verdict.specs.Code.Scan.{lane_turn}
 use Rattle.verdict.proofs.join_block.Given as goal
 
 abbrev pub invariant-loop-q : goal.invariant-loop-q
-invariant-loop-q l = (l.q ≤ 16) × (length l.lanes ≡ length l.initial.lanes) × (l.lanes ≡ run (lane_turn l.s l.at) l.q l.initial.lanes)
-
-abbrev pub decreases-loop-q : goal.decreases-loop-q
-decreases-loop-q l = 16 - l.q
+invariant-loop-q l = (length l.lanes ≡ length l.initial.lanes) × (l.lanes ≡ run (lane_turn l.s l.at) l.q l.initial.lanes)

@@ -8,13 +8,13 @@ use Rattle.verdict.specs.Code.Scan.{blocks_bits}
 use Rattle.verdict.proofs.join_blocks.Goals as goal
 
 pub loop-u-init : goal.loop-u-init
-loop-u-init c = (search rules, omega arith, search rules, run_none _ _)
+loop-u-init c = (search rules, search rules, run_none _ _)
 
 pub loop-u-preserved : goal.loop-u-preserved
 loop-u-preserved c =
     let l = c.loop-u in
-    (search rules, omega (arith, l.invariant.1), c.join_block.auto.lanes ∙ l.invariant.2, run-next _ _ _ _ _ l.invariant.3 (rw (← l.invariant.1) c.join_block.ensures))
+    (search rules, c.join_block.auto.lanes ∙ l.invariant.1, run-next _ _ _ _ _ l.invariant.2 c.join_block.ensures)
 
 pub returns : goal.returns
 unfolding blocks_bits
-returns c = run_done _ _ _ _ _ c.loop-u.invariant.3 (omega arith)
+returns c = run_done _ _ _ _ _ c.loop-u.invariant.2 (omega arith)

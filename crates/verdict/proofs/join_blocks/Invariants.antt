@@ -9,7 +9,7 @@ use Rattle.verdict.proofs.join_blocks.Given as goal
 
 abbrev pub invariant-loop-u : goal.invariant-loop-u
 invariant-loop-u l =
-    (l.u ≤ l.blocks) × (l.at ≡ l.u * 128) × (length l.lanes ≡ length l.initial.lanes) × (l.lanes ≡ run (λ u. block_bits l.s (u * 128)) l.u l.initial.lanes)
+    (l.u ≤ l.blocks) × (length l.lanes ≡ length l.initial.lanes) × (l.lanes ≡ run (λ u. block_bits l.s (u * 128)) l.u l.initial.lanes)
 
 abbrev pub decreases-loop-u : goal.decreases-loop-u
 decreases-loop-u l = l.blocks - l.u

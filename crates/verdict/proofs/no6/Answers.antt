@@ -1,18 +1,16 @@
--- `no6` meets its contract: the scan gives the first place, whose cell is told where there is one.
+-- `no6` meets its contract: the scan gives the first place, and where there is none no place meets the test.
 -- Assumes nothing.
-use Rattle.verdict.specs.Refusals.{no6}
+use mathlib.Core.Path.{sym, ◌∙◌}
+use Rattle.verdict.specs.Refusals.{too_large, no6}
+use Rattle.verdict.proofs.Scan.{found, unfound}
 use Rattle.verdict.proofs.no6.Goals as goal
 
-pub entry_at-requires : goal.entry_at-requires
-entry_at-requires c = rw c.in-Shared.is at c.requires
-
-pub entry_at-requires-in-Values : goal.entry_at-requires-in-Values
-entry_at-requires-in-Values c = rw c.in-Values.is at c.requires
-
-pub returns-in-Shared : goal.returns-in-Shared
+pub returns-in-Some : goal.returns-in-Some
 unfolding no6
-returns-in-Shared c = rw (c.in-Shared.is, ← c.first_too_large-place.ensures) c.entry_at.ensures
+returns-in-Some c =
+    let w = found (too_large c.args.f) c.args.input.now c.in-Some.place (sym c.first_too_large.ensures ∙ c.in-Some.is) in
+    rw (w.0, w.1, c.cell_at.ensures)
 
-pub returns-in-Values : goal.returns-in-Values
+pub returns-in-None : goal.returns-in-None
 unfolding no6
-returns-in-Values c = rw (c.in-Values.is, ← c.first_too_large-place-in-Values.ensures) c.entry_at-in-Values.ensures
+returns-in-None c = rw (unfound (too_large c.args.f) c.args.input.now (sym c.first_too_large.ensures ∙ c.in-None.is))

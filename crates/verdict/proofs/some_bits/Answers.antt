@@ -2,17 +2,16 @@
 -- Assumes nothing.
 use mathlib.Core.Path.{refl}
 use native.Mathlib.Omega.{arith}
-use borrow.Author.Rules.{rules}
 use Rattle.sharing.proofs.Loops.{run_none, run-next, run_done}
 use Rattle.verdict.specs.Code.Scan.{some_bits}
 use Rattle.verdict.proofs.some_bits.Goals as goal
 
-pub loop-i-init : goal.loop-i-init
-loop-i-init c = (search rules, search rules, run_none _ _)
+pub loop-x-init : goal.loop-x-init
+loop-x-init c = run_none _ _
 
-pub loop-i-preserved : goal.loop-i-preserved
-loop-i-preserved c = (search rules, search rules, run-next _ _ _ _ _ c.loop-i.invariant.2 refl)
+pub loop-x-preserved : goal.loop-x-preserved
+loop-x-preserved c = run-next _ _ _ _ _ c.loop-x.invariant refl
 
 pub returns : goal.returns
 unfolding some_bits
-returns c = run_done _ _ _ _ _ c.loop-i.invariant.2 (omega arith)
+returns c = run_done _ _ _ _ _ c.loop-x.invariant (omega arith)

@@ -15,10 +15,9 @@ perform-requires c =
     let w = column_in c.args.o.size c.args.s u in
     rw c.column_of-r.ensures
     (record {
-      bounded = square p.sizes;
+      shaped = record { bounded = square p.sizes; bytes = p.table_len.0 };
       row = (w, other_row c.args.o.size c.args.s u);
       bound = (w.0, omega arith, rw p.table_len.1 w.1);
-      table_len = p.table_len.0;
       s_in_bounds = p.s_in_bounds;
     })
 

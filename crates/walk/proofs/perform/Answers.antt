@@ -1,82 +1,28 @@
 -- `walk::perform` meets its contract: each arm is the step's line of the definition, and what the work asks follows from the step's places.
 -- Assumes nothing.
-use native.Mathlib.Omega.{arith}
 use Rattle.course.specs.StepList.{cost_in, revealed_by}
 use Rattle.walk.specs.Act.{step_opens, step_leaves}
-use Rattle.walk.proofs.Acted.{inside}
 use Rattle.walk.proofs.perform.Goals as goal
 
-pub mix-requires : goal.mix-requires
+pub mix-requires-clause-draws : goal.mix-requires-clause-draws
 unfolding cost_in
-mix-requires c =
-    let e = c.in-Mix.is in
-    let row = rw e at c.requires.row in
-    let column = rw e at c.requires.bound in
-    let draws = rw e at c.requires.s_in_bounds in
-    record { bounded = c.requires.bounded; inside = (inside row.0 column.0 (omega (arith, column.1)), inside row.1 column.0 (omega (arith, column.1))); table_len = (c.requires.table_len, draws.0) }
+mix-requires-clause-draws c = let draws = rw c.in-Mix.is at c.requires.s_in_bounds in draws.0
 
-pub check-requires : goal.check-requires
+pub check-requires-clause-draws : goal.check-requires-clause-draws
 unfolding cost_in
-check-requires c =
-    let e = c.in-Check.is in
-    let row = rw e at c.requires.row in
-    let column = rw e at c.requires.bound in
-    let draws = rw e at c.requires.s_in_bounds in
-    record { bounded = c.requires.bounded; inside = inside row.0 column.0 (omega (arith, column.1)); table_len = (c.requires.table_len, draws.0) }
+check-requires-clause-draws c = let draws = rw c.in-Check.is at c.requires.s_in_bounds in draws.0
 
-pub scale-requires : goal.scale-requires
+pub scale-requires-clause-draws : goal.scale-requires-clause-draws
 unfolding cost_in
-scale-requires c =
-    let e = c.in-Scale.is in
-    let row = rw e at c.requires.row in
-    let column = rw e at c.requires.bound in
-    let draws = rw e at c.requires.s_in_bounds in
-    record { bounded = c.requires.bounded; inside = inside row.0 column.0 (omega (arith, column.1)); table_len = (c.requires.table_len, draws.0, draws.1) }
+scale-requires-clause-draws c = let draws = rw c.in-Scale.is at c.requires.s_in_bounds in draws
 
-pub clear-requires : goal.clear-requires
+pub clear-requires-clause-draws : goal.clear-requires-clause-draws
 unfolding cost_in
-clear-requires c =
-    let e = c.in-Clear.is in
-    let row = rw e at c.requires.row in
-    let column = rw e at c.requires.bound in
-    let draws = rw e at c.requires.s_in_bounds in
-    record { bounded = c.requires.bounded; inside = (inside row.0 column.0 (omega (arith, column.1)), inside row.1 column.0 (omega (arith, column.1))); table_len = (c.requires.table_len, draws.0) }
+clear-requires-clause-draws c = let draws = rw c.in-Clear.is at c.requires.s_in_bounds in draws.0
 
-pub open-x-requires : goal.open-x-requires
+pub open-x-requires-clause-draws : goal.open-x-requires-clause-draws
 unfolding cost_in
-open-x-requires c =
-    let e = c.in-Open.is in
-    let row = rw e at c.requires.row in
-    let column = rw e at c.requires.bound in
-    let draws = rw e at c.requires.s_in_bounds in
-    record { bounded = c.requires.bounded; inside = inside row.0 (omega (arith, column.1)) (omega arith); table_len = (c.requires.table_len, draws.0) }
-
-pub lift-requires : goal.lift-requires
-lift-requires c =
-    let e = c.in-Lift.is in
-    let row = rw e at c.requires.row in
-    let column = rw e at c.requires.bound in
-    record { fits = c.requires.bounded.fits; inside = inside row.0 column.0 (omega (arith, column.1)); table_len = c.requires.table_len }
-
-pub overflow_sub-solution : goal.overflow_sub-solution
-overflow_sub-solution c =
-    let column = rw c.in-Open.is at c.requires.bound in
-    omega (arith, column)
-
-pub bounds-solution-j : goal.bounds-solution-j
-bounds-solution-j c =
-    let column = rw c.in-Open.is at c.requires.bound in
-    omega (arith, column)
-
-pub overflow_sub-c : goal.overflow_sub-c
-overflow_sub-c c =
-    let column = rw c.in-Lift.is at c.requires.bound in
-    omega (arith, column)
-
-pub bounds-solution-c : goal.bounds-solution-c
-bounds-solution-c c =
-    let column = rw c.in-Lift.is at c.requires.bound in
-    omega (arith, column)
+open-x-requires-clause-draws c = let draws = rw c.in-Open.is at c.requires.s_in_bounds in draws.0
 
 pub returns-in-Mix : goal.returns-in-Mix
 unfolding step_opens step_leaves revealed_by

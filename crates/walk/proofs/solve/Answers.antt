@@ -1,10 +1,10 @@
 -- `walk::solve` meets its contract. The loop's invariant: what was counted and the steps left make up the list, and the walk of the steps left comes to the
 -- end of the whole walk. The measure is how many steps are left.
 -- Assumes nothing.
-use mathlib.Core.Path.{refl, sym, ap, ◌∙◌}
+use mathlib.Core.Path.{refl, ap, ◌∙◌}
 use Prim.Native.Nat.{◌≤◌, ◌<◌, ◌+◌}
 use native.Mathlib.Omega.{arith}
-use lib.ListN.{length, length-drop, length-replicate}
+use lib.ListN.{length, length-drop}
 use Rattle.sharing.proofs.Loops.{rest}
 use Rattle.course.specs.declared.Order.{Order}
 use Rattle.course.specs.declared.Place.TheVariants.{At}
@@ -19,9 +19,9 @@ use Rattle.walk.proofs.Going.{Going, tally, begin, moved, ended, halted}
 use Rattle.walk.proofs.solve.Goals as goal
 use Rattle.walk.proofs.solve.Invariants.{end}
 
-pub loop-s-init : goal.loop-s-init
+pub loop-p-init : goal.loop-p-init
 unfolding start_of
-loop-s-init c =
+loop-p-init c =
     let a = c.args in
     rw c.start-p.ensures
     (record {
@@ -30,74 +30,41 @@ loop-s-init c =
       going = begin a.o a.mask.now a.nonzero.now (held a.table.now a.solution.now) c.requires.sizes.some;
     })
 
-pub slice_bounds-act-count : goal.slice_bounds-act-count
-slice_bounds-act-count c =
+pub act-x-requires-clause-s_value : goal.act-x-requires-clause-s_value
+act-x-requires-clause-s_value c =
     let a = c.args in
-    let l = c.loop-s in
+    let l = c.loop-p in
     let s = c.in-At.s in
     let going : Going a.o a.mask.now a.nonzero.now (end a.o a.mask.now a.nonzero.now (held a.table.now a.solution.now)) (At s) (tally (held l.table l.solution) l.steps l.p.mask l.p.nonzero) =
     rw c.in-At.is at l.invariant.going in
-    let room : (l.steps < length (step_list a.o.size)) × (l.p.mask + mask_cost a.o s ≤ full_mask a.o) × (l.p.nonzero + nonzero_cost a.o s ≤ full_nonzero a.o) =
-    room_along _ going.along in
-    omega (arith, room.1, c.requires.o_in_bounds.0)
+    along_in _ going.along
 
-pub slice_bounds-act-start : goal.slice_bounds-act-start
-slice_bounds-act-start c =
+pub act-x-requires-clause-s_in_bounds : goal.act-x-requires-clause-s_in_bounds
+act-x-requires-clause-s_in_bounds c =
     let a = c.args in
-    let l = c.loop-s in
-    let s = c.in-At.s in
-    let going : Going a.o a.mask.now a.nonzero.now (end a.o a.mask.now a.nonzero.now (held a.table.now a.solution.now)) (At s) (tally (held l.table l.solution) l.steps l.p.mask l.p.nonzero) =
-    rw c.in-At.is at l.invariant.going in
-    let room : (l.steps < length (step_list a.o.size)) × (l.p.mask + mask_cost a.o s ≤ full_mask a.o) × (l.p.nonzero + nonzero_cost a.o s ≤ full_nonzero a.o) =
-    room_along _ going.along in
-    omega (arith, room.1, c.requires.o_in_bounds.0)
-
-pub slice_bounds-act-count-in-At : goal.slice_bounds-act-count-in-At
-slice_bounds-act-count-in-At c =
-    let a = c.args in
-    let l = c.loop-s in
-    let s = c.in-At.s in
-    let going : Going a.o a.mask.now a.nonzero.now (end a.o a.mask.now a.nonzero.now (held a.table.now a.solution.now)) (At s) (tally (held l.table l.solution) l.steps l.p.mask l.p.nonzero) =
-    rw c.in-At.is at l.invariant.going in
-    let room : (l.steps < length (step_list a.o.size)) × (l.p.mask + mask_cost a.o s ≤ full_mask a.o) × (l.p.nonzero + nonzero_cost a.o s ≤ full_nonzero a.o) =
-    room_along _ going.along in
-    omega (arith, room.2, c.requires.o_in_bounds.1)
-
-pub slice_bounds-act-start-in-At : goal.slice_bounds-act-start-in-At
-slice_bounds-act-start-in-At c =
-    let a = c.args in
-    let l = c.loop-s in
-    let s = c.in-At.s in
-    let going : Going a.o a.mask.now a.nonzero.now (end a.o a.mask.now a.nonzero.now (held a.table.now a.solution.now)) (At s) (tally (held l.table l.solution) l.steps l.p.mask l.p.nonzero) =
-    rw c.in-At.is at l.invariant.going in
-    let room : (l.steps < length (step_list a.o.size)) × (l.p.mask + mask_cost a.o s ≤ full_mask a.o) × (l.p.nonzero + nonzero_cost a.o s ≤ full_nonzero a.o) =
-    room_along _ going.along in
-    omega (arith, room.2, c.requires.o_in_bounds.1)
-
-pub act-x-requires : goal.act-x-requires
-act-x-requires c =
-    let a = c.args in
-    let l = c.loop-s in
+    let l = c.loop-p in
     let s = c.in-At.s in
     let going : Going a.o a.mask.now a.nonzero.now (end a.o a.mask.now a.nonzero.now (held a.table.now a.solution.now)) (At s) (tally (held l.table l.solution) l.steps l.p.mask l.p.nonzero) =
     rw c.in-At.is at l.invariant.going in
     let room : (l.steps < length (step_list a.o.size)) × (l.p.mask + mask_cost a.o s ≤ full_mask a.o) × (l.p.nonzero + nonzero_cost a.o s ≤ full_nonzero a.o) =
     room_along _ going.along in
     let p = c.requires in
-    let v = l.invariant in
-    record {
-      sizes = p.sizes;
-      s_value = along_in _ going.along;
-      table_len = (v.lengths.table, v.lengths.solution);
-      s_in_bounds =
-          (rw (rest, length-drop) (omega (arith, room.1, p.o_in_bounds.0)), rw (rest, length-drop) (omega (arith, room.2, p.o_in_bounds.1)));
-    }
+    (rw (rest, length-drop) (omega (arith, room.1, p.o_in_bounds.0)), rw (rest, length-drop) (omega (arith, room.2, p.o_in_bounds.1)))
+
+pub next-p-requires-clause-s_value : goal.next-p-requires-clause-s_value
+next-p-requires-clause-s_value c =
+    let a = c.args in
+    let l = c.loop-p in
+    let s = c.in-At.s in
+    let going : Going a.o a.mask.now a.nonzero.now (end a.o a.mask.now a.nonzero.now (held a.table.now a.solution.now)) (At s) (tally (held l.table l.solution) l.steps l.p.mask l.p.nonzero) =
+    rw c.in-At.is at l.invariant.going in
+    ap (λ (r : Order). in_list r.size s) l.invariant.order ∙ along_in _ going.along
 
 -- the counters have room, as the whole list does not take so many draws
-pub next-p-requires : goal.next-p-requires
-next-p-requires c =
+pub next-p-requires-clause-s_bound : goal.next-p-requires-clause-s_bound
+next-p-requires-clause-s_bound c =
     let a = c.args in
-    let l = c.loop-s in
+    let l = c.loop-p in
     let s = c.in-At.s in
     let going : Going a.o a.mask.now a.nonzero.now (end a.o a.mask.now a.nonzero.now (held a.table.now a.solution.now)) (At s) (tally (held l.table l.solution) l.steps l.p.mask l.p.nonzero) =
     rw c.in-At.is at l.invariant.going in
@@ -105,16 +72,12 @@ next-p-requires c =
     room_along _ going.along in
     let z = c.requires.sizes in
     let e = l.invariant.order in
-    record {
-      sizes = rw e z;
-      s_value = ap (λ (r : Order). in_list r.size s) e ∙ along_in _ going.along;
-      s_bound = (rw e (omega (arith, room.1, mask_small _ z)), rw e (omega (arith, room.2, nonzero_small _ z)));
-    }
+    (rw e (omega (arith, room.1, mask_small _ z)), rw e (omega (arith, room.2, nonzero_small _ z)))
 
 pub overflow_add-steps : goal.overflow_add-steps
 overflow_add-steps c =
     let a = c.args in
-    let l = c.loop-s in
+    let l = c.loop-p in
     let s = c.in-At.s in
     let going : Going a.o a.mask.now a.nonzero.now (end a.o a.mask.now a.nonzero.now (held a.table.now a.solution.now)) (At s) (tally (held l.table l.solution) l.steps l.p.mask l.p.nonzero) =
     rw c.in-At.is at l.invariant.going in
@@ -122,21 +85,10 @@ overflow_add-steps c =
     room_along _ going.along in
     omega (arith, room.0, list_small a.o.size c.requires.sizes.most)
 
-pub loop-s-smaller : goal.loop-s-smaller
-loop-s-smaller c =
+pub loop-p-preserved : goal.loop-p-preserved
+loop-p-preserved c =
     let a = c.args in
-    let l = c.loop-s in
-    let s = c.in-At.s in
-    let going : Going a.o a.mask.now a.nonzero.now (end a.o a.mask.now a.nonzero.now (held a.table.now a.solution.now)) (At s) (tally (held l.table l.solution) l.steps l.p.mask l.p.nonzero) =
-    rw c.in-At.is at l.invariant.going in
-    let room : (l.steps < length (step_list a.o.size)) × (l.p.mask + mask_cost a.o s ≤ full_mask a.o) × (l.p.nonzero + nonzero_cost a.o s ≤ full_nonzero a.o) =
-    room_along _ going.along in
-    omega (arith, room.0)
-
-pub loop-s-preserved : goal.loop-s-preserved
-loop-s-preserved c =
-    let a = c.args in
-    let l = c.loop-s in
+    let l = c.loop-p in
     let s = c.in-At.s in
     let going : Going a.o a.mask.now a.nonzero.now (end a.o a.mask.now a.nonzero.now (held a.table.now a.solution.now)) (At s) (tally (held l.table l.solution) l.steps l.p.mask l.p.nonzero) =
     rw c.in-At.is at l.invariant.going in
@@ -154,27 +106,15 @@ loop-s-preserved c =
           left (ap (λ (r : Order). cost_of r s) l.invariant.order);
     })
 
-pub shape_of-table-in-Stopped : goal.shape_of-table-in-Stopped
-shape_of-table-in-Stopped c = c.loop-s.invariant.lengths.table ∙ sym c.requires.table_len.0
-
-pub shape_of-solution-in-Stopped : goal.shape_of-solution-in-Stopped
-shape_of-solution-in-Stopped c = simp (c.wipe.ensures, length-replicate) (c.loop-s.invariant.lengths.solution ∙ sym c.requires.table_len.1)
-
 pub returns-in-Stopped : goal.returns-in-Stopped
 unfolding solved conclude
 returns-in-Stopped c =
     let a = c.args in
-    let e = halted a.o a.mask.now a.nonzero.now (rw c.in-Stopped.is at c.loop-s.invariant.going) in
+    let e = halted a.o a.mask.now a.nonzero.now (rw c.in-Stopped.is at c.loop-p.invariant.going) in
     rw c.wipe.ensures (ap conclude e)
-
-pub shape_of-table-in-Done : goal.shape_of-table-in-Done
-shape_of-table-in-Done c = c.loop-s.invariant.lengths.table ∙ sym c.requires.table_len.0
-
-pub shape_of-solution-in-Done : goal.shape_of-solution-in-Done
-shape_of-solution-in-Done c = c.loop-s.invariant.lengths.solution ∙ sym c.requires.table_len.1
 
 pub returns-in-Done : goal.returns-in-Done
 unfolding solved conclude
 returns-in-Done c =
     let a = c.args in
-    ap conclude (ended a.o a.mask.now a.nonzero.now (rw c.in-Done.is at c.loop-s.invariant.going))
+    ap conclude (ended a.o a.mask.now a.nonzero.now (rw c.in-Done.is at c.loop-p.invariant.going))

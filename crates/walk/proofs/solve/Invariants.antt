@@ -24,8 +24,8 @@ pub record Turning (o : Order) (ms zs : List ℕ) (h : Held) (p : Progress) (t :
   pub lengths : Lengths o t.left
   pub going : Going o ms zs (end o ms zs h) p.place t
 
-abbrev pub invariant-loop-s : goal.invariant-loop-s
-invariant-loop-s l = Turning l.o l.mask l.nonzero (held l.initial.table l.initial.solution) l.p (tally (held l.table l.solution) l.steps l.p.mask l.p.nonzero)
+abbrev pub invariant-loop-p : goal.invariant-loop-p
+invariant-loop-p l = Turning l.o l.mask l.nonzero (held l.initial.table l.initial.solution) l.p (tally (held l.table l.solution) l.steps l.p.mask l.p.nonzero)
 
-abbrev pub decreases-loop-s : goal.decreases-loop-s
-decreases-loop-s l = length (step_list l.o.size) - l.steps
+abbrev pub decreases-loop-p : goal.decreases-loop-p
+decreases-loop-p l = length (step_list l.o.size) - l.steps

@@ -1,25 +1,22 @@
 -- `wide::answer` meets its contract: an Open tells what it opened, and every other step that it moved, or is short.
 -- Assumes nothing.
-use mathlib.Core.Path.{sym, ap, ◌∙◌}
+use Rattle.std.proofs.Common.{rules}
 use Rattle.course.specs.StepList.{revealed_by}
-use Rattle.verdict.specs.Calls.{gives}
-use Rattle.wide.specs.WideCalls.{tells, moves_at}
-use Rattle.wide.proofs.Calls.{not_open, not_short, not_done}
+use Rattle.wide.specs.WideCalls.{tells}
 use Rattle.wide.proofs.answer.Goals as goal
 
-pub returns-in_default-next : goal.returns-in_default-next
+pub returns-in-Open-Done : goal.returns-in-Open-Done
 unfolding tells revealed_by
-returns-in_default-next c =
-    rw c.in-Open.is (ap gives (not_done c.args.next c.in_default-next.not-Done c.in-Open.j c.args.x))
+returns-in-Open-Done c = search rules
 
-pub returns-in-Open : goal.returns-in-Open
+pub returns-in-Open-default : goal.returns-in-Open-default
 unfolding tells revealed_by
-returns-in-Open c = rw (c.in-Open.is, c.in-Done.is)
+returns-in-Open-default c = search rules
 
-pub returns-in_default-next-2 : goal.returns-in_default-next-2
-returns-in_default-next-2 c =
-    ap gives (not_short c.args.next c.in_default-next-2.not-Short ∙ not_open c.args.s c.in_default.not-Open c.args.x c.args.next)
+pub returns-in_default-Short : goal.returns-in_default-Short
+unfolding tells revealed_by
+returns-in_default-Short c = search rules
 
-pub returns : goal.returns
-returns c =
-    ap gives (ap moves_at (sym c.in-Short.is) ∙ not_open c.args.s c.in_default.not-Open c.args.x c.args.next)
+pub returns-in_default : goal.returns-in_default
+unfolding tells revealed_by
+returns-in_default c = search rules

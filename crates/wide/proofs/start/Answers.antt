@@ -1,21 +1,19 @@
 -- `wide::start` meets its contract: its checks are the sizes, and a pass gives the record at the first place.
 -- Assumes nothing.
-use mathlib.Core.Path.{ap, ◌∙◌}
-use Rattle.verdict.specs.Calls.{after, gives}
-use Rattle.verdict.proofs.Verdicts.{passes}
-use Rattle.verdict.proofs.Calls.{refuses_call, passes_call}
-use Rattle.wide.specs.WideCalls.{fresh, start_call}
+use mathlib.Core.Path.{sym}
+use Rattle.std.proofs.Common.{rules}
+use Rattle.verdict.specs.Calls.{call}
+use Rattle.wide.specs.WideCalls.{start_call}
 use Rattle.wide.proofs.Ready.{sized}
 use Rattle.wide.proofs.start.Goals as goal
 
 pub start-requires : goal.start-requires
-start-requires c = sized _ (passes _ _ c.sizes.ensures c.in-Pass.is)
+start-requires c = sized _ (sym c.in_ok-sizes.ensures)
 
-pub returns-in-Refuse : goal.returns-in-Refuse
-unfolding start_call
-returns-in-Refuse c = refuses_call _ _ _ _ _ c.sizes.ensures c.in-Refuse.is
+pub returns-in_err-sizes : goal.returns-in_err-sizes
+unfolding start_call call
+returns-in_err-sizes c = search rules
 
-pub returns-in-Pass : goal.returns-in-Pass
-unfolding start_call
-returns-in-Pass c =
-    ap (λ p. after (gives fresh) p) c.start.ensures ∙ passes_call _ _ _ _ c.sizes.ensures c.in-Pass.is
+pub returns : goal.returns
+unfolding start_call call
+returns c = search rules

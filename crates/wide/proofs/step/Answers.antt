@@ -1,31 +1,31 @@
 -- `wide::step` meets its contract: a pass gives the work of the place's step what it asks for, and a place that is no step is left as it is.
 -- Assumes nothing.
-use mathlib.Core.Path.{◌≡◌, ap, ◌∙◌}
+use mathlib.Core.Path.{◌≡◌, sym, ap}
 use native.Mathlib.Omega.{arith}
-use Rattle.sharing.specs.Bounds.{most_rows}
 use lib.ListN.{length}
+use Rattle.std.proofs.Common.{rules}
+use Rattle.sharing.specs.Bounds.{most_rows}
 use Rattle.pattern.proofs.Counting.{wanted_few}
 use Rattle.pattern.proofs.Moving.{standing-says, room_at}
-use Rattle.verdict.proofs.Verdicts.{passes}
-use Rattle.verdict.proofs.Calls.{refuses_call, passes_call}
+use Rattle.verdict.specs.Calls.{call}
 use Rattle.wide.specs.WideRefusals.{cost_at}
-use Rattle.wide.specs.WideCalls.{step_call}
-use Rattle.wide.proofs.Ready.{going, tests}
-use Rattle.wide.proofs.Calls.{step_done_lem, step_stays}
-use borrow.Author.Rules.{rules}
+use Rattle.wide.specs.WideCalls.{step_does, step_call}
+use Rattle.wide.proofs.Ready.{going, kept_and_stands}
 use Rattle.wide.proofs.step.Goals as goal
 
+pub returns-in_err-step : goal.returns-in_err-step
+unfolding step_call call
+returns-in_err-step c = search rules
+
 pub returns-in_default : goal.returns-in_default
-unfolding step_call
-returns-in_default c =
-    step_stays _ _ _ _ _ c.in_default.not-At
-    ∙ passes_call _ _ _ _ c.step.ensures c.in-Pass.is
+unfolding step_call step_does call
+returns-in_default c = search rules
 
 pub act-x-requires : goal.act-x-requires
 unfolding cost_at
 act-x-requires c =
-    let g = going _ _ _ _ _ (passes _ _ c.step.ensures c.in-Pass.is) in
-    let t = tests _ g.at.stood.listed in
+    let g = going _ _ _ _ _ (sym c.in_ok-step.ensures) in
+    let t = kept_and_stands _ g.at.stood.listed in
     let m = ap (λ p. (cost_at c.args.p.order p).mask) c.in-At.is in
     let k = ap (λ p. (cost_at c.args.p.order p).nonzero) c.in-At.is in
     record {
@@ -37,7 +37,7 @@ act-x-requires c =
 
 pub next-next-requires : goal.next-next-requires
 next-next-requires c =
-    let g = going _ _ _ _ _ (passes _ _ c.step.ensures c.in-Pass.is) in
+    let g = going _ _ _ _ _ (sym c.in_ok-step.ensures) in
     let p = c.args.p in
     let slots : length p.pivots.columns ≡ most_rows = search rules in
     let r = room_at p.order g.sizes c.in-At.s c.in-At.is (standing-says p slots g.at.stood.listed g.at.stood.matched) in
@@ -48,12 +48,6 @@ next-next-requires c =
       s_bound = (omega (arith, r.1, few.0), omega (arith, r.2, few.1));
     }
 
-pub returns-in-Refuse : goal.returns-in-Refuse
-unfolding step_call
-returns-in-Refuse c = refuses_call _ _ _ _ _ c.step.ensures c.in-Refuse.is
-
-pub returns-in-At : goal.returns-in-At
-unfolding step_call
-returns-in-At c =
-    step_done_lem _ _ _ _ _ _ _ _ _ _ c.in-At.is c.act-x.ensures.value c.act-x.ensures.solution_after c.next-next.ensures c.answer.ensures
-    ∙ passes_call _ _ _ _ c.step.ensures c.in-Pass.is
+pub returns : goal.returns
+unfolding step_call step_does call
+returns c = search rules

@@ -25,13 +25,15 @@ perform-requires c =
     let w = placed_at a.o z a.v slots p.v_value.0 a.s p.v_value.1 in
     rw c.row_of-r.ensures
     (record {
-      bounded = record {
-        shares_low = z.two;
-        fits = record { shares_high = z.four; rows_high = z.most; width_high = omega (arith, z.widest) };
+      shaped = record {
+        bounded = record {
+          shares_low = z.two;
+          fits = record { shares_high = z.four; rows_high = z.most; width_high = omega (arith, z.widest) };
+        };
+        bytes = p.table_len.0;
       };
       row = ((w.row_low, w.row_high), other_row _ _ a.s w.other);
       bound = (w.column_low, omega (arith, w.column_high), rw p.table_len.1 w.column_high);
-      table_len = p.table_len.0;
       s_in_bounds = p.s_in_bounds;
     })
 

@@ -7,9 +7,9 @@ use Rattle.wide_walk.specs.WideWalk.{most_steps, ended}
 use Rattle.wide_walk.proofs.Going.{Going, tally}
 use Rattle.wide_walk.proofs.solve.Given as goal
 
-abbrev pub invariant-loop-s : goal.invariant-loop-s
-invariant-loop-s l =
+abbrev pub invariant-loop-p : goal.invariant-loop-p
+invariant-loop-p l =
     Going l.o l.mask l.nonzero (ended l.o l.mask l.nonzero (held l.initial.table l.initial.solution)) (tally l.p (held l.table l.solution) l.steps)
 
-abbrev pub decreases-loop-s : goal.decreases-loop-s
-decreases-loop-s l = most_steps l.o - l.steps
+abbrev pub decreases-loop-p : goal.decreases-loop-p
+decreases-loop-p l = most_steps l.o - l.steps

@@ -1,7 +1,6 @@
--- `word::entry` meets its contract. The loop's invariant: the places so far hold the shares.
--- Assumes nothing.
+-- The places so far hold the shares.
 use mathlib.Core.Path.{◌≡◌}
-use Prim.Native.Nat.{◌-◌, ◌*◌, ◌/◌, ◌%◌, ◌≤◌}
+use Prim.Native.Nat.{◌-◌, ◌*◌, ◌/◌, ◌%◌}
 use lib.ListN.{length}
 use Rattle.row.proofs.Filling.{Filled}
 use Rattle.word.specs.Rows.{byte_of}
@@ -9,7 +8,4 @@ use Rattle.word.proofs.entry.Given as goal
 
 abbrev pub invariant-loop-s : goal.invariant-loop-s
 invariant-loop-s l =
-    (l.s ≤ l.n) × (l.g ≡ l.e / 8 * l.n) × (l.shift ≡ 8 * (7 - l.e % 8)) × (length l.out ≡ l.n) × Filled (byte_of l.n l.row l.e) l.s l.out
-
-abbrev pub decreases-loop-s : goal.decreases-loop-s
-decreases-loop-s l = l.n - l.s
+    (l.g ≡ l.e / 8 * l.n) × (l.shift ≡ 8 * (7 - l.e % 8)) × (length l.out ≡ l.n) × Filled (byte_of l.n l.row l.e) l.s l.out

@@ -1,17 +1,12 @@
--- `word::take_row` meets its contract. The loop's invariant: the columns so far are taken, and p is where the next one goes.
--- Assumes nothing.
-use mathlib.Core.Path.{◌≡◌, sym, ap, ◌∙◌}
-use Prim.Native.Nat.{ℕ, ◌+◌, ◌-◌, ◌*◌, ◌/◌, ◌%◌, ◌<◌, ◌≤◌}
+use mathlib.Core.Path.{◌≡◌, refl, ap, ◌∙◌}
+use Prim.Native.Nat.{ℕ, ◌+◌, ◌-◌, ◌*◌, ◌/◌, ◌%◌, ◌<◌}
 use mathlib.Core.List.{List}
 use native.Mathlib.Omega.{arith}
 use lib.Arith.{digits_div, digits_mod}
-use lib.ListN.{length}
 use Rattle.sharing.proofs.Loops.{taken_more, taken_room}
-use Rattle.row.proofs.Filling.{filled_none, filled_all}
+use Rattle.row.proofs.Filling.{Filled, filled_all}
 use Rattle.word.specs.Rows.{byte_of, bytes_of}
-use Rattle.word.proofs.Parts.{lent_length, filled_part}
-use Rattle.word.proofs.Places.{group_room}
-use borrow.Author.Rules.{rules}
+use Rattle.word.proofs.Parts.{filled_part}
 use Rattle.word.proofs.take_row.Invariants.{byte_at}
 use Rattle.word.proofs.take_row.Goals as goal
 
@@ -23,55 +18,26 @@ at-share n columns e u j row h g =
     let d : columns - 1 - u ≡ e = omega arith in
     rw (a, b, d)
 
-pub loop-u-init : goal.loop-u-init
-loop-u-init c = (search rules, search rules, search rules, search rules, filled_none _ _)
+-- the same list, with the places counted in another way
+as_far : (g : ℕ → ℕ) (k m : ℕ) (t : List ℕ) → k ≡ m → Filled g k t → Filled g m t
+as_far g k m t e F = record { at = λ i h. F.at i (omega arith) }
 
-pub overflow_add-p : goal.overflow_add-p
-overflow_add-p c =
-    let column : c.loop-u.p + c.args.n ≤ length c.loop-u.bytes =
-    let l = c.loop-u in taken_room l.p l.u c.args.n c.args.columns l.invariant.1 c.loop-u-test.true (omega arith) in
-    omega (arith, column)
-
-pub slice_bounds-entry-end : goal.slice_bounds-entry-end
-slice_bounds-entry-end c =
-    let column : c.loop-u.p + c.args.n ≤ length c.loop-u.bytes =
-    let l = c.loop-u in taken_room l.p l.u c.args.n c.args.columns l.invariant.1 c.loop-u-test.true (omega arith) in
-    omega (arith, column)
-
-pub entry-requires : goal.entry-requires
-entry-requires c =
-    let column : c.loop-u.p + c.args.n ≤ length c.loop-u.bytes =
-    let l = c.loop-u in taken_room l.p l.u c.args.n c.args.columns l.invariant.1 c.loop-u-test.true (omega arith) in
-    let l = c.loop-u in (
-      c.requires.1,
-      lent_length c.args.n l.p l.bytes column,
-      omega arith,
-      group_room c.args.n c.args.columns (l.e - 1) _ (omega arith) c.requires.4,
-    )
-
-pub overflow_add-p-in-loop-u : goal.overflow_add-p-in-loop-u
-overflow_add-p-in-loop-u c =
-    let column : c.loop-u.p + c.args.n ≤ length c.loop-u.bytes =
-    let l = c.loop-u in taken_room l.p l.u c.args.n c.args.columns l.invariant.1 c.loop-u-test.true (omega arith) in
-    omega (arith, column)
-
-pub loop-u-preserved : goal.loop-u-preserved
-loop-u-preserved c =
-    let column : c.loop-u.p + c.args.n ≤ length c.loop-u.bytes =
-    let l = c.loop-u in taken_room l.p l.u c.args.n c.args.columns l.invariant.1 c.loop-u-test.true (omega arith) in
-    let l = c.loop-u in
-    let x = c.args in (
-      omega arith,
-      taken_more l.p l.u x.n l.invariant.1,
-      omega arith,
-      search rules,
-      filled_part (byte_at x.n x.columns x.row.now) (byte_of x.n x.row.now (l.e - 1)) l.p x.n _ l.bytes c.entry.ensures column l.invariant.4
-          (λ j h. at-share x.n x.columns (l.e - 1) l.u j x.row.now (omega arith) h ∙ ap (λ (y : ℕ). byte_at x.n x.columns x.row.now (y + j)) (sym l.invariant.1)),
-    )
+pub loop-e-preserved : goal.loop-e-preserved
+loop-e-preserved c =
+    let x = c.args in
+    let l = c.loop-e in
+    let e : ℕ = l.e - 1 in
+    let u : ℕ = x.columns - 1 - e in
+    let so_far : x.columns - l.e ≡ u = omega arith in
+    let next : u + 1 ≡ x.columns - e = omega arith in
+    as_far _ (u * x.n + x.n) _ _ (taken_more (u * x.n) u x.n refl ∙ ap (λ (k : ℕ). k * x.n) next)
+    (filled_part (byte_at x.n x.columns x.row.now) (byte_of x.n x.row.now e) (u * x.n) x.n _ l.bytes c.entry.ensures
+    (taken_room (u * x.n) u x.n x.columns refl (omega arith) (omega arith)) (rw so_far at l.invariant)
+    (λ j h. at-share x.n x.columns e u j x.row.now (omega arith) h))
 
 pub returns : goal.returns
 unfolding bytes_of
 returns c =
-    let l = c.loop-u in
-    let e : l.u ≡ c.args.columns = omega arith in
-    filled_all _ l.p _ l.bytes (l.invariant.3 ∙ c.requires.3) (l.invariant.1 ∙ ap (λ (y : ℕ). y * c.args.n) e) l.invariant.4
+    let l = c.loop-e in
+    let e : c.args.columns - l.e ≡ c.args.columns = omega arith in
+    filled_all _ ((c.args.columns - l.e) * c.args.n) _ l.bytes (omega arith) (ap (λ (k : ℕ). k * c.args.n) e) l.invariant

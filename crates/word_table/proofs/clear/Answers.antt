@@ -1,56 +1,57 @@
--- `word_table::clear` meets its contract: T[k,j] is copied before its row changes, and the copy is the factor.
--- Assumes nothing.
-use mathlib.Core.Path.{◌≡◌, sym, ◌∙◌}
+-- T[k,j] is copied before its row changes, and the copy is the factor.
+use mathlib.Core.Path.{◌≡◌, refl, subst, ◌∙◌}
+use Prim.Native.Nat.{ℕ}
+use mathlib.Core.List.{List}
 use native.Mathlib.Omega.{arith}
-use lib.ListN.{length, length-append}
+use lib.ListN.{length}
 use lib.Seq.{length-take-le, take_at}
+use borrow.Author.Tests.{ne_eqb}
+use Rattle.field.specs.Field.{bits}
 use Rattle.table.specs.Steps.{clear}
 use Rattle.table.specs.Costs.{clear_cost}
-use Rattle.word_table.specs.Table.{by_all}
+use Rattle.word_table.specs.Table.{Told, by_all}
 use Rattle.word_table.proofs.Joined.{join_rows_sign}
 use Rattle.word_table.proofs.clear.Goals as goal
 
-pub slice_bounds-entry-end : goal.slice_bounds-entry-end
-slice_bounds-entry-end c = sym (length-take-le _ _ (omega arith))
+-- all bits of an element of F16, and of F256
+told_16 : (f : ℕ) (factor : List ℕ) → f ≡ 16 → Told f factor 4
+unfolding bits
+told_16 f factor e = rw e by_all
 
-pub entry-requires : goal.entry-requires
-entry-requires c = record {
-  bounded = c.requires.bounded;
-  inside = c.requires.inside.1;
-  w_in_bounds = (c.requires.w_in_bounds.0, length-take-le _ _ (omega arith));
-}
-
-pub slice_bounds-copy-end-2 : goal.slice_bounds-copy-end-2
-slice_bounds-copy-end-2 c =
-    let copied : length c.entry.new.out ≡ c.args.n =
-    c.entry.auto.out ∙ length-take-le _ _ (omega arith) in
-    simp length-append (omega (arith, copied))
-
-pub slice_bounds-join_rows-end : goal.slice_bounds-join_rows-end
-slice_bounds-join_rows-end c =
-    let copied : length c.entry.new.out ≡ c.args.n =
-    c.entry.auto.out ∙ length-take-le _ _ (omega arith) in
-    let e = copied in rw (take_at _ _ _ e) (sym e)
+told_256 : (f : ℕ) (factor : List ℕ) → (f ≡ 16 → ⊥) → Told f factor 8
+unfolding bits
+told_256 f factor e = let b : bits f ≡ 8 = rw (ne_eqb f 16 e) refl in subst (λ (w : ℕ). Told f factor w) b by_all
 
 pub join_rows-requires : goal.join_rows-requires
 unfolding clear_cost
 join_rows-requires c =
-    let copied : length c.entry.new.out ≡ c.args.n =
-    c.entry.auto.out ∙ length-take-le _ _ (omega arith) in
-    let e = copied in
-    rw (take_at _ _ _ e, c.field_bits-bits.ensures) (record {
-      bounded = c.requires.bounded;
-      inside = (c.requires.inside.1, c.requires.inside.0);
-      w_in_bounds = (c.requires.w_in_bounds.0, e, c.requires.w_in_bounds.1, c.requires.w_in_bounds.2);
-      room = (c.requires.room, by_all);
-      below = c.requires.below;
-    })
+    let q = c.requires in
+    let s = c.args.shape in
+    let copied : length c.entry.new.out ≡ s.shares = c.entry.auto.out ∙ length-take-le _ _ (omega arith) in
+    rw (take_at _ _ _ copied)
+    (record { worded = q.worded; inside = (q.inside.1, q.inside.0); draws = (copied, q.draws); room = ((let r = q.room in record { for_other = r.for_other; for_draws = r.for_draws; for_products = r.for_products; for_masks = r.for_masks; none_hidden = r.none_hidden }), told_16 s.field _ c.if-shape-eq16.true); below = q.below })
 
-pub returns : goal.returns
+pub join_rows-requires-else-shape-eq16 : goal.join_rows-requires-else-shape-eq16
+unfolding clear_cost
+join_rows-requires-else-shape-eq16 c =
+    let q = c.requires in
+    let s = c.args.shape in
+    let copied : length c.entry.new.out ≡ s.shares = c.entry.auto.out ∙ length-take-le _ _ (omega arith) in
+    rw (take_at _ _ _ copied)
+    (record { worded = q.worded; inside = (q.inside.1, q.inside.0); draws = (copied, q.draws); room = ((let r = q.room in record { for_other = r.for_other; for_draws = r.for_draws; for_products = r.for_products; for_masks = r.for_masks; none_hidden = r.none_hidden }), told_256 s.field _ c.if-shape-eq16.false); below = q.below })
+
+pub returns-then-shape-eq16 : goal.returns-then-shape-eq16
 unfolding clear
-returns c =
-    let copied : length c.entry.new.out ≡ c.args.n =
-    c.entry.auto.out ∙ length-take-le _ _ (omega arith) in
+returns-then-shape-eq16 c =
     let x = c.args in
-    let j = c.join_rows.ensures in
-    rw (take_at _ _ _ copied, c.entry.ensures) at j ∙ join_rows_sign x.f x.n x.w x.k x.r x.j _ x.mask.now _
+    let s = x.shape in
+    let copied : length c.entry.new.out ≡ s.shares = c.entry.auto.out ∙ length-take-le _ _ (omega arith) in
+    rw (take_at _ _ _ copied, c.entry.ensures) at c.join_rows.ensures ∙ join_rows_sign s.field s.shares s.columns x.k x.r x.j _ x.mask.now _
+
+pub returns-else-shape-eq16 : goal.returns-else-shape-eq16
+unfolding clear
+returns-else-shape-eq16 c =
+    let x = c.args in
+    let s = x.shape in
+    let copied : length c.entry.new.out ≡ s.shares = c.entry.auto.out ∙ length-take-le _ _ (omega arith) in
+    rw (take_at _ _ _ copied, c.entry.ensures) at c.join_rows-else-shape-eq16.ensures ∙ join_rows_sign s.field s.shares s.columns x.k x.r x.j _ x.mask.now _

@@ -1,34 +1,36 @@
--- `word_table::load` meets its contract.
--- Assumes nothing.
 use mathlib.Core.Path.{◌≡◌, ◌∙◌}
+use Prim.Native.Nat.{◌+◌, ◌*◌, ◌≤◌}
 use native.Mathlib.Omega.{arith}
-use Rattle.word_table.proofs.Sizes.{table-rows}
-use Rattle.word_table.proofs.Loading.{loaded_none, loaded_next, loaded_all}
-use borrow.Author.Rules.{rules}
+use lib.ListN.{length}
+use Rattle.field.specs.Field.{field_of, F256}
+use Rattle.table.proofs.Lent.{lent_length}
+use Rattle.word_table.proofs.Sizes.{table-rows, row_in, bytes_in}
+use Rattle.word_table.proofs.Loading.{loaded_part, loaded_next, loaded_all}
 use Rattle.word_table.proofs.load.Goals as goal
 
-pub loop-r-init : goal.loop-r-init
-loop-r-init c = (search rules, search rules, loaded_none _ _ _ _ _)
+pub slice_bounds-deal-end : goal.slice_bounds-deal-end
+slice_bounds-deal-end c = omega (arith, row_in c.args.shape {i = c.loop-r.r} c.row_words-size.ensures.0 c.requires.worded.room (omega arith))
 
-pub load_row-requires : goal.load_row-requires
-load_row-requires c = record {
-  bounded = c.requires.bounded;
-  le_w = (c.requires.le_w.0, omega arith, c.requires.le_w.1, omega (arith, c.loop-r.invariant.1, c.requires.le_w.2));
-}
+pub slice_bounds-deal-end-in-loop-r : goal.slice_bounds-deal-end-in-loop-r
+slice_bounds-deal-end-in-loop-r c = omega (arith, bytes_in c.args.shape {i = c.loop-r.r} c.requires.shaped.bytes (omega arith))
 
 pub loop-r-preserved : goal.loop-r-preserved
+unfolding field_of F256
 loop-r-preserved c =
     let l = c.loop-r in
-    let x = c.args in
-    let R = c.load_row.ensures in
-    (search rules, R.size ∙ l.invariant.1, loaded_next x.n x.w x.rows x.table.now l.r l.words _ l.invariant.2 R)
-
-pub shape_of-words : goal.shape_of-words
-shape_of-words c = c.loop-r.invariant.1
+    let s = c.args.shape in
+    let t = c.args.table.now in
+    let z = c.row_words-size.result in
+    let e = c.row_words-size.ensures.0 in
+    let in_words : l.r * z + z ≤ length l.words = row_in s e (omega (arith, c.requires.worded.room)) (omega arith) in
+    let in_bytes = bytes_in s {i = l.r} c.requires.shaped.bytes (omega arith) in
+    loaded_next s.shares s.columns s.rows t l.r l.words _ l.invariant
+    (loaded_part s.shares s.columns l.r z t l.words _ e (c.deal.auto.row ∙ lent_length z (l.r * z) l.words in_words) in_words in_bytes
+    (record { at = λ i. omega (arith, c.type_inv.table i) }) c.deal.ensures)
 
 pub returns : goal.returns
 returns c =
-    let x = c.args in
+    let s = c.args.shape in
     let l = c.loop-r in
-    let e : l.r ≡ x.rows = omega (arith, l.invariant.0) in
-    loaded_all x.n x.w x.rows x.table.now l.words (c.requires.le_w.1 ∙ table-rows x.n x.rows x.w) (rw e at l.invariant.2)
+    let e : l.r ≡ s.rows = omega arith in
+    loaded_all s.shares s.columns s.rows c.args.table.now l.words (c.requires.shaped.bytes ∙ table-rows s.shares s.rows s.columns) (rw e at l.invariant)

@@ -1,28 +1,28 @@
--- `word_table::store` meets its contract.
--- Assumes nothing.
-use mathlib.Core.Path.{sym, ◌∙◌}
+use mathlib.Core.Path.{◌∙◌}
 use native.Mathlib.Omega.{arith}
 use Rattle.sharing.proofs.Loops.{run_none, run-next, run_done}
-use Rattle.word_table.proofs.Storing.{stored, turn_length}
-use borrow.Author.Rules.{rules}
+use Rattle.word_table.proofs.Sizes.{row_in, bytes_in}
+use Rattle.word_table.proofs.Storing.{stored, stored_part}
 use Rattle.word_table.proofs.store.Goals as goal
 
 pub loop-r-init : goal.loop-r-init
-loop-r-init c = (search rules, search rules, run_none _ _)
+loop-r-init c = run_none _ _
 
-pub store_row-requires : goal.store_row-requires
-store_row-requires c = record { bounded = c.requires.bounded; r_lt_rows = (omega arith, c.loop-r.invariant.1, c.requires.table_len.1) }
+pub slice_bounds-take_row-end : goal.slice_bounds-take_row-end
+slice_bounds-take_row-end c = omega (arith, bytes_in c.args.shape {i = c.loop-r.r} c.requires.shaped.bytes (omega arith))
+
+pub slice_bounds-take_row-end-in-loop-r : goal.slice_bounds-take_row-end-in-loop-r
+slice_bounds-take_row-end-in-loop-r c =
+    omega (arith, row_in c.args.shape {i = c.loop-r.r} c.row_words-size.ensures.0 c.requires.worded.room (omega arith))
 
 pub loop-r-preserved : goal.loop-r-preserved
 loop-r-preserved c =
     let l = c.loop-r in
-    let x = c.args in
-    (search rules, rw c.store_row.ensures (turn_length x.n x.w x.rows x.words.now l.r (omega arith) l.table l.invariant.1), run-next _ _ _ _ _ l.invariant.2 c.store_row.ensures)
-
-pub shape_of-table : goal.shape_of-table
-shape_of-table c = c.loop-r.invariant.1 ∙ sym c.requires.table_len.0
+    let s = c.args.shape in
+    run-next _ _ _ _ _ l.invariant
+    (rw c.take_row.ensures (stored_part s.shares s.columns l.r c.row_words-size.result c.args.words.now l.table c.row_words-size.ensures.0))
 
 pub returns : goal.returns
 returns c =
-    let x = c.args in
-    run_done _ _ x.rows _ _ c.loop-r.invariant.2 (omega (arith, c.loop-r.invariant.0)) ∙ stored x.n x.w x.rows x.words.now x.table.now c.requires.table_len.0
+    let s = c.args.shape in
+    run_done _ _ s.rows _ _ c.loop-r.invariant (omega arith) ∙ stored s.shares s.columns s.rows c.args.words.now c.args.table.now c.requires.shaped.bytes

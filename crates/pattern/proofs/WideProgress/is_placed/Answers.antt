@@ -5,16 +5,13 @@ use Rattle.pattern.specs.Next.{placed}
 use Rattle.pattern.proofs.Standing.{kept-says}
 use Rattle.pattern.proofs.WideProgress.is_placed.Goals as goal
 
-pub returns-then-not-is_kept : goal.returns-then-not-is_kept
-unfolding placed
-returns-then-not-is_kept c = rw (sym c.is_kept.ensures ∙ c.if-not-is_kept.true)
+pub stands-requires : goal.stands-requires
+stands-requires c = (c.requires, (kept-says _ _ (sym c.is_kept.ensures ∙ c.if-is_kept.true)).few)
 
-pub place_stands-requires : goal.place_stands-requires
-place_stands-requires c =
-    let p = c.args.self in
-    let k = kept-says p.order p.pivots (sym c.is_kept.ensures ∙ c.if-not-is_kept.false) in
-    (c.requires, k.few)
-
-pub returns : goal.returns
+pub returns-then-is_kept : goal.returns-then-is_kept
 unfolding placed
-returns c = rw (sym c.is_kept.ensures ∙ c.if-not-is_kept.false) c.place_stands.ensures
+returns-then-is_kept c = rw (sym c.is_kept.ensures ∙ c.if-is_kept.true) c.stands.ensures
+
+pub returns-else-is_kept : goal.returns-else-is_kept
+unfolding placed
+returns-else-is_kept c = rw (sym c.is_kept.ensures ∙ c.if-is_kept.false) c.if-is_kept.false

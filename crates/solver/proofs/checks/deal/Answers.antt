@@ -1,18 +1,32 @@
--- `checks::deal` meets its contract: a refusal of the first stage stands, and after a pass the order is the rest of it.
+-- `checks::deal` meets its contract: each check in its order, and the first that refuses stands.
 -- Assumes nothing.
-use mathlib.Core.Path.{◌∙◌}
+use Rattle.std.proofs.Common.{rules}
+use Rattle.verdict.specs.Told.{◌or◌}
 use Rattle.solver.specs.Refusals.{deal_order}
+use Rattle.verdict.proofs.Verdicts.{passes}
 use Rattle.solver.proofs.Ready.{sized}
-use Rattle.verdict.proofs.Verdicts.{stops_at, goes_on, passes}
 use Rattle.solver.proofs.checks.deal.Goals as goal
 
-pub returns-in_default : goal.returns-in_default
-unfolding deal_order
-returns-in_default c = stops_at _ _ _ _ c.sizes-v.ensures c.in_default.is
+pub returns-in_err-sizes : goal.returns-in_err-sizes
+unfolding deal_order ◌or◌
+returns-in_err-sizes c = search rules
 
-pub deal_lent-requires : goal.deal_lent-requires
-deal_lent-requires c = sized _ (passes _ _ c.sizes-v.ensures c.in-Pass.is)
+pub value_rows-requires : goal.value_rows-requires
+value_rows-requires c = sized _ (passes _ _ _ c.sizes.ensures c.in_ok-sizes.was)
+
+pub entry_count-requires : goal.entry_count-requires
+entry_count-requires c = (sized _ (passes _ _ _ c.sizes.ensures c.in_ok-sizes.was)).most
+
+pub whole_table-requires : goal.whole_table-requires
+whole_table-requires c = sized _ (passes _ _ _ c.sizes.ensures c.in_ok-sizes.was)
+
+pub deal_draws-requires : goal.deal_draws-requires
+deal_draws-requires c = sized _ (passes _ _ _ c.sizes.ensures c.in_ok-sizes.was)
+
+pub returns-in_err-buffers : goal.returns-in_err-buffers
+unfolding deal_order ◌or◌
+returns-in_err-buffers c = search rules
 
 pub returns : goal.returns
-unfolding deal_order
-returns c = c.deal_lent.ensures ∙ goes_on _ _ _ c.sizes-v.ensures c.in-Pass.is
+unfolding deal_order ◌or◌
+returns c = search rules

@@ -1,19 +1,29 @@
--- `checks::solve` meets its contract: a refusal of the first stage stands, and after a pass the order is the rest of it.
+-- `checks::solve` meets its contract: each check in its order, and what is lent is looked at where the sizes pass.
 -- Assumes nothing.
-use mathlib.Core.Path.{◌∙◌}
-use Rattle.verdict.proofs.Verdicts.{stops_at, goes_on, passes}
+use mathlib.Core.Path.{sym}
+use Rattle.std.proofs.Common.{rules}
+use Rattle.verdict.specs.Told.{◌or◌}
 use Rattle.wide.specs.WideRefusals.{solve_order}
 use Rattle.wide.proofs.Ready.{sized}
 use Rattle.wide.proofs.checks.solve.Goals as goal
 
-pub returns-in_default : goal.returns-in_default
-unfolding solve_order
-returns-in_default c = stops_at _ _ _ _ c.sizes-v.ensures c.in_default.is
+pub returns-in_err-sizes : goal.returns-in_err-sizes
+unfolding solve_order ◌or◌
+returns-in_err-sizes c = search rules
 
-pub solve_lent-requires : goal.solve_lent-requires
-solve_lent-requires c = sized _ (passes _ _ c.sizes-v.ensures c.in-Pass.is)
+pub table_rows-requires : goal.table_rows-requires
+table_rows-requires c = sized _ (sym c.in_ok-sizes.ensures)
+
+pub whole_table-requires : goal.whole_table-requires
+whole_table-requires c = sized _ (sym c.in_ok-sizes.ensures)
+
+pub returns-in_err-buffers : goal.returns-in_err-buffers
+unfolding solve_order ◌or◌
+returns-in_err-buffers c = search rules
+
+pub wanted-d-requires : goal.wanted-d-requires
+wanted-d-requires c = sized _ (sym c.in_ok-sizes.ensures)
 
 pub returns : goal.returns
-unfolding solve_order
-returns c =
-    c.solve_lent.ensures ∙ goes_on _ _ _ c.sizes-v.ensures c.in-Pass.is
+unfolding solve_order ◌or◌
+returns c = search rules
