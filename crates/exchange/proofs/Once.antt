@@ -2,8 +2,7 @@
 -- Assumes nothing.
 use mathlib.Core.List.{List}
 use Prim.Native.Nat.{ℕ}
-use Rattle.verdict.specs.Calls.{Nothing}
-use Rattle.verdict.specs.Code.Verdicts.{says}
+use Rattle.verdict.specs.Calls.{Nothing, says}
 use Rattle.verdict.proofs.Once.{Once, once_says}
 use Rattle.exchange.specs.declared.System.{System}
 

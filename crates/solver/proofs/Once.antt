@@ -13,8 +13,7 @@ use Rattle.walk.specs.Act.{Held}
 use Rattle.solver.specs.declared.Stride.{Stride}
 use Rattle.solver.specs.declared.Stepped.{Stepped}
 use Rattle.verdict.specs.declared.Refusal.{Refusal}
-use Rattle.verdict.specs.Calls.{Says, refuses, gives, Outcome, after, Nothing}
-use Rattle.verdict.specs.Code.Verdicts.{says}
+use Rattle.verdict.specs.Calls.{Says, refuses, gives, Outcome, after, Nothing, says}
 use Rattle.verdict.proofs.Once.{back, back-paper, Once, once_says}
 use Rattle.solver.specs.Calls.{step_says, left_by, Lent, lent}
 

@@ -12,8 +12,7 @@ use Rattle.verdict.specs.Told.{Line}
 use Rattle.verdict.specs.Cells.{cell}
 use Rattle.verdict.specs.Refusals.{paper}
 use Rattle.std.specs.Prelude.{Result, Ok, Err}
-use Rattle.verdict.specs.Calls.{Says, refuses, gives, Outcome, after}
-use Rattle.verdict.specs.Code.Verdicts.{says}
+use Rattle.verdict.specs.Calls.{Says, refuses, gives, Outcome, after, says}
 
 -- the case of a number of 01's table
 pub back : Line → Refusal

@@ -8,8 +8,7 @@ use Rattle.walk.specs.Act.{Held}
 use Rattle.pattern.specs.declared.WideProgress.{WideProgress}
 use Rattle.wide_walk.specs.declared.WideEnding.{WideEnding}
 use Rattle.verdict.specs.declared.Refusal.{Refusal}
-use Rattle.verdict.specs.Calls.{Says, refuses, gives, Outcome, after, Nothing}
-use Rattle.verdict.specs.Code.Verdicts.{says}
+use Rattle.verdict.specs.Calls.{Says, refuses, gives, Outcome, after, Nothing, says}
 use Rattle.verdict.proofs.Once.{back, back-paper, Once, once_says}
 use Rattle.wide.specs.declared.WideStride.{WideStride}
 use Rattle.wide.specs.declared.WideStepped.{WideStepped}
