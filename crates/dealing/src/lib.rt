@@ -16,7 +16,7 @@ fn word_at<const N: usize>(d: &[u8], o: usize) -> u64
     ensures { Lanes result (λ l. get_or d.now (o + l * N) 0) }
 {
     let mut bytes = [0u8; 8];
-    // stays: a lane's number is what its byte's place in d is counted from, so that an iterator over the array gives the index all the same
+    // stays: tried by iter_mut().enumerate() over the array: the turn's value has a name in the goal that no answer may cite, and the proof didn't close
     for l in 0..8 {
         bytes[l] = d[o + l * N];
     }

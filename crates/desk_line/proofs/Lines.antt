@@ -8,8 +8,7 @@ use borrow.Author.Tests.{eq-eqb, ne_eqb}
 use lib.ListN.{length, get_or}
 use Rattle.course.specs.declared.Counts.{Counts}
 use Rattle.verdict.specs.declared.Refusal.{Refusal}
-use Rattle.verdict.specs.Calls.{Outcome, Nothing, after}
-use Rattle.verdict.specs.Code.Verdicts.{says}
+use Rattle.verdict.specs.Calls.{Outcome, Nothing, after, says}
 use Rattle.solver.specs.Calls.{order, counts_call}
 use Rattle.desk_line.specs.Line.{refused_line, line_of, desk_line}
 

@@ -45,6 +45,7 @@ fn number_of(r: Refusal) -> usize
 }
 
 // The line of a refusal.
+// stays: a number: 13 is desk's own and of no Refusal, and `refused_line` (specs/Line.antt) takes numbers.
 fn refused(k: usize, out: &mut [u8]) -> usize
     requires { 64 ≤ length out.old }
     ensures { Made out.old (refused_line k) out.new result }

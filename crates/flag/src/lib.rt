@@ -94,7 +94,7 @@ fn own_terms<const N: usize>(s: &mut [u8], old: &mut [u8], t: &[u8])
     requires { (length s.old ≡ N) × (length old.old ≡ N) × (length t.now ≡ N) }
     ensures { (s.new ≡ own_terms s.old t.now) × (old.new ≡ s.old) }
 {
-    // stays: the new form is no plainer (three slices go in step, and N is a number here, as in shift).
+    // stays: two of the three slices are written, and of a zip with an iter_mut a proof knows no element; N is a number here, as in shift.
     for i in 0..N {
         let x = s[i];
         old[i] = x;

@@ -9,11 +9,10 @@ use borrow.Author.Tests.{eq-eqb, ne_eqb}
 use Rattle.std.specs.Prelude.{Result, Ok, Err}
 use Rattle.walk.specs.Act.{Held}
 use Rattle.verdict.specs.declared.Refusal.{Refusal}
-use Rattle.verdict.specs.Code.Verdicts.{says}
 use Rattle.plain.specs.declared.Ending.{Ending}
 use Rattle.plain.specs.Calls.{answer, plain_says}
 use Rattle.verdict.specs.Told.{Line}
-use Rattle.verdict.specs.Calls.{Says, refuses, gives, Outcome, after, Nothing}
+use Rattle.verdict.specs.Calls.{Says, refuses, gives, Outcome, after, Nothing, says}
 use Rattle.host.specs.declared.replies.Reply.{Reply}
 use Rattle.host.specs.Replies.{refusal_reply, four_of, said, fresh_reply, plain_reply}
 use Rattle.host.specs.Faces.{Back, back, handed, worded, words_right, start_handed, recorded, step_handed}

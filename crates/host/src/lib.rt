@@ -4,6 +4,7 @@
 // The record is `record_words` here: antt reserves `record`.
 #![tactic(auto)]
 
+// stays: a square and a wide export each, since hostozaro.h has both names; what their answers share is `Answer`.
 mod replies;
 mod words;
 

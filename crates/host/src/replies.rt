@@ -1,7 +1,7 @@
 // What a call tells: a code and four words.
 ghost use Rattle.std.specs.Prelude.{◌≡◌, length};
+ghost use Rattle.verdict.specs.Calls.{says};
 ghost use Rattle.verdict.specs.Refusals.{paper};
-ghost use Rattle.verdict.specs.Code.Verdicts.{says};
 ghost use Rattle.plain.specs.Calls.{answer};
 ghost use Rattle.host.specs.declared.replies.Reply.{Reply};
 ghost use Rattle.host.specs.Replies.{reply, refusal_reply, said, counts_reply, full_reply, ending_reply, stride_reply, wanted_reply, plain_reply, system_reply, fresh_reply, wide_stride_reply, wide_ending_reply, four_of};
@@ -14,6 +14,7 @@ use walk::Ending;
 use wide::WideStride;
 use wide_walk::WideEnding;
 
+// stays: numbers for kinds: the codes are those of hostozaro.h.
 #[derive(Clone, Copy, Debug, PartialEq, Eq)]
 pub struct Reply {
     pub code: u64,

@@ -9,6 +9,7 @@ use course::{Place, Progress, Step};
 use pattern::{Pivots, WideOrder, WidePlace, WideProgress};
 
 // A place as words: the step's number, j and k.
+// stays: numbers for kinds, here and in place_of: the words of a record are those of hostozaro.h, in two records of 8 and of 106 words.
 #[derive(Clone, Copy, Debug, PartialEq, Eq)]
 pub struct Spot {
     pub step: u64,
@@ -17,6 +18,7 @@ pub struct Spot {
 }
 
 // A place outside every list.
+// stays: a place of no list and no Option, since refusal 10 answers such a record (`place_of`, specs/Words.antt).
 fn no_place() -> Place
     ensures { result ≡ nowhere }
 {

@@ -3,8 +3,7 @@
 
 ghost use Rattle.std.specs.Prelude.{◌≡◌};
 ghost use Rattle.walk.specs.Act.{held};
-ghost use Rattle.verdict.specs.Calls.{after};
-ghost use Rattle.verdict.specs.Code.Verdicts.{says};
+ghost use Rattle.verdict.specs.Calls.{after, says};
 ghost use Rattle.solver.specs.Calls.{step_says, left_by, step_call, lent};
 
 use course::Progress;

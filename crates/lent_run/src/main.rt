@@ -5,7 +5,7 @@
 #![tactic(auto)]
 
 use course::{Place, Progress, Step};
-use solver::{Stepped, Stride};
+use solver::Stride;
 use std::io;
 use verdict::Refusal;
 
@@ -51,33 +51,33 @@ fn print_told(out: &impl Print, t: Words) -> io::Result<()> {
     print_host(out, t.host)
 }
 
+// The record, the table and the solution are lent, and are what they are after the call.
 fn by_lent(h: Host, mask: &[u8], nonzero: &[u8]) -> Words {
-    let mut t = h.table;
-    let mut x = h.solution;
-    let r = lent::stepped(h.record, &mut t, &mut x, mask, nonzero);
-    outcome(r, h.record, t, x)
+    let mut record = h.record;
+    let mut table = h.table;
+    let mut solution = h.solution;
+    let answer = lent::step(&mut record, &mut table, &mut solution, mask, nonzero);
+    Words {
+        answer,
+        host: Host {
+            record,
+            table,
+            solution,
+        },
+    }
 }
 
+// By value a refusal gives no record: the caller's is as it was.
 fn by_value(h: Host, mask: &[u8], nonzero: &[u8]) -> Words {
-    let mut t = h.table;
-    let mut x = h.solution;
-    let r = solver::step(h.record, &mut t, &mut x, mask, nonzero);
-    outcome(r, h.record, t, x)
-}
-
-// A refusal leaves the record as it was.
-fn outcome(
-    r: Result<Stepped, Refusal>,
-    was: Progress,
-    table: [u8; 12],
-    solution: [u8; 2],
-) -> Words {
-    let record = match r {
+    let mut table = h.table;
+    let mut solution = h.solution;
+    let a = solver::step(h.record, &mut table, &mut solution, mask, nonzero);
+    let record = match a {
         Ok(s) => s.next,
-        Err(_) => was,
+        Err(_) => h.record,
     };
     Words {
-        answer: r.map(|s| s.told),
+        answer: a.map(|s| s.told),
         host: Host {
             record,
             table,

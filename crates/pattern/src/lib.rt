@@ -42,6 +42,7 @@ pub struct Pivots {
 }
 
 // The progress record, with the draws taken so far and the pivots found.
+// stays: the twin of course's Progress: R-8's record, list and next place are definitions of their own (specs/Next, PatternList), as 01's are.
 #[derive(Clone, Copy, Debug, PartialEq, Eq)]
 pub struct WideProgress {
     pub order: WideOrder,

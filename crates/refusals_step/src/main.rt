@@ -38,12 +38,9 @@ fn with(o: Order, place: Place, t: Drawn) -> Progress {
 // R-5's sums for one equation in two shares over F16; of a step that is not in its list any will do.
 fn step_in_one(s: Step) -> Drawn {
     match s {
-        Step::Mix { j: _, k: _ } => taken(0, 0),
-        Step::Check(_) => taken(0, 0),
         Step::Scale(_) => taken(5, 0),
-        Step::Clear { j: _, k: _ } => taken(0, 0),
         Step::Open(_) => taken(11, 1),
-        Step::Lift(_) => taken(0, 0),
+        _ => taken(0, 0),
     }
 }
 

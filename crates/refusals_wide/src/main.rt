@@ -576,29 +576,11 @@ fn end_run(out: &impl Print, t: &[u8; 16], x: &[u8; 3]) -> io::Result<()> {
 }
 
 fn twelve(out: &impl Print, t: &mut [u8], x: &mut [u8]) -> io::Result<()> {
-    let p = four(out, begun(), t, x)?;
-    eight(out, p, t, x)?;
+    let mut p = begun();
+    for _ in 0usize..12 {
+        p = turn(out, p, t, x)?;
+    }
     Ok(())
-}
-
-fn eight(
-    out: &impl Print,
-    p: WideProgress,
-    t: &mut [u8],
-    x: &mut [u8],
-) -> io::Result<WideProgress> {
-    let q = four(out, p, t, x)?;
-    four(out, q, t, x)
-}
-
-fn four(out: &impl Print, p: WideProgress, t: &mut [u8], x: &mut [u8]) -> io::Result<WideProgress> {
-    let q = two(out, p, t, x)?;
-    two(out, q, t, x)
-}
-
-fn two(out: &impl Print, p: WideProgress, t: &mut [u8], x: &mut [u8]) -> io::Result<WideProgress> {
-    let q = turn(out, p, t, x)?;
-    turn(out, q, t, x)
 }
 
 // So many bytes from a place on, or as many as there are.

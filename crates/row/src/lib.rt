@@ -105,6 +105,7 @@ fn spread_column<const N: usize>(span: usize, c: &mut [u8], a: usize, z: &[u8], 
     }
 }
 
+// stays: the number of a turn gives places at several steps, here, in the products and in gather, so that no one slice is gone through.
 fn spread<const N: usize>(columns: usize, span: usize, c: &mut [u8], z: &[u8])
     requires { (2 ≤ N) × (N ≤ 4) × (columns * N ≤ span) × (span ≤ row_room) × (N * span ≤ length c.old) × (columns * pairs N ≤ length z.now) }
     ensures { c.new ≡ spread_all N columns span z.now c.old }
@@ -233,6 +234,7 @@ fn gather<const N: usize, const BLOCK: usize>(blocks: usize, span: usize, out: &
 }
 
 // The factor's shares, modulo q.
+// stays: by the index, as in table::join: of a zip with its iter_mut a proof knows no element.
 fn reduced(f: u64, a: &mut [u8], factor: &[u8])
     requires { length a.old ≡ length factor.now }
     ensures { a.new ≡ tab (length factor.now) (draw_at (field_of f) factor.now) }

@@ -39,7 +39,7 @@ pub fn copy_into(dst: &mut [u8], src: &[u8])
     }
 }
 
-// stays: the new form is no plainer (what fill promises is, at bytes, one implication away from these zeros).
+// stays: the name that the two walks and docs/DECISIONS.md have, with its promise as one equation; its body is the library's fill.
 pub fn wipe(x: &mut [u8])
     ensures { x.new ≡ replicate (length x.old) 0 }
 {

@@ -26,6 +26,7 @@ pub fn order(field: u64, shares: u64, size: u64) -> Order {
 }
 
 // Copies as much as both hold: a call is lent a copy, so that it can be held against what was there.
+// stays: as much as both hold, where copy_from_slice asks for one length.
 pub fn copy(from: &[u8], to: &mut [u8]) {
     for (x, y) in from.iter().zip(to) {
         *y = *x;
@@ -63,6 +64,7 @@ pub fn after(out: &impl Print) -> io::Result<()> {
     print!(out; "\n  after: ")
 }
 
+// stays: the bool is a comparison's outcome, and chooses a word.
 pub fn end(out: &impl Print, same: bool) -> io::Result<()> {
     let words = if same { "unchanged" } else { "changed" };
     print!(out; "{words}\n")

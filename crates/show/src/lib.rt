@@ -1,5 +1,5 @@
 // Printing for the programs examples, solves and refusals_*: bytes in hex, how a solve ended, and the calls with what they are lent. Answers and
-// places print themselves, by Display. Stands on solver.
+// places print themselves, by Display. Stands on walk and verdict.
 #![tactic(auto)]
 
 use course::Counts;

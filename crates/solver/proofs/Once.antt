@@ -13,41 +13,28 @@ use Rattle.walk.specs.Act.{Held}
 use Rattle.solver.specs.declared.Stride.{Stride}
 use Rattle.solver.specs.declared.Stepped.{Stepped}
 use Rattle.verdict.specs.declared.Refusal.{Refusal}
-use Rattle.verdict.specs.Calls.{Says, refuses, gives, Outcome, after, Nothing}
-use Rattle.verdict.specs.Code.Verdicts.{says}
-use Rattle.verdict.proofs.Once.{back, back-paper, Once, only}
+use Rattle.verdict.specs.Calls.{Says, refuses, gives, Outcome, after, Nothing, says}
+use Rattle.verdict.proofs.Once.{back, back-paper, Once, once_says}
 use Rattle.solver.specs.Calls.{step_says, left_by, Lent, lent}
-
-says_back : {A : Type 0} → Says A → Result A Refusal
-says_back (refuses l) = Err (back l)
-says_back (gives a) = Ok a
-
-back_says : {A : Type 0} (s : Result A Refusal) → says_back (says s) ≡ s
-unfolding says_back
-back_says (Ok a) = refl
-back_says (Err r) = ap Err (back-paper r)
-
-once_lem : {A L : Type 0} → Once {E = Result A Refusal} says L
-once_lem = only says says_back back_says
 
 -- so of Start, of the counts, of Deal and Gather, of Solve, of Step and of Wanted, each with what it is lent
 pub start_once : Once {E = Result Progress Refusal} says Nothing
-start_once = once_lem
+start_once = once_says
 
 pub counts_once : Once {E = Result Counts Refusal} says Nothing
-counts_once = once_lem
+counts_once = once_says
 
 pub fill_once : Once {E = Result Nothing Refusal} says (List ℕ)
-fill_once = once_lem
+fill_once = once_says
 
 pub solve_once : Once {E = Result Ending Refusal} says Held
-solve_once = once_lem
+solve_once = once_says
 
 pub step_once : Once {E = Result Stride Refusal} says Lent
-step_once = once_lem
+step_once = once_says
 
 pub wanted_once : Once {E = Result Draws Refusal} says Nothing
-wanted_once = once_lem
+wanted_once = once_says
 
 -- and of Step on a record by value, of which a refusal leaves nothing to say
 module _ (p : Progress) where

@@ -9,14 +9,13 @@ mod checks;
 ghost use Rattle.std.specs.Prelude.{◌≡◌};
 ghost use Rattle.course.specs.StepList.{revealed_by};
 ghost use Rattle.walk.specs.Act.{held};
-ghost use Rattle.verdict.specs.Calls.{after};
-ghost use Rattle.verdict.specs.Code.Verdicts.{says};
+ghost use Rattle.verdict.specs.Calls.{after, says};
 ghost use Rattle.solver.specs.Calls.{order, start_call, counts_call, deal_call, gather_call, solve_call, Tells, Taken, step_says, left_by, step_call, tells, lent, wanted_call};
 
 use course::{Counts, Draws, Order, Place, Progress, Step};
 use std::fmt;
-use verdict::Refusal;
-use walk::Ending;
+pub use verdict::Refusal;
+pub use walk::Ending;
 
 // What a step tells.
 #[derive(Clone, Copy, Debug, PartialEq, Eq)]

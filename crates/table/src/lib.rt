@@ -76,7 +76,7 @@ pub fn join<S: Sign>(f: u64, s: &mut [u8], v: &[u8])
 
 // A row from some column on: row += or -= Product(factor, other row), as if column by column. Mix and Clear spend their time here. What
 // is behind the columns of the other row is room to work in.
-// stays: f and n here and below, and no shape: a row is of no table, and the code of docs/OBJECT.md, `join_part`, is that of a row's columns alone.
+// stays: f and n here and below, and no shape: a row is of no table, and row::product takes f and n alone.
 fn join_row<S: Sign>(
     f: u64,
     n: usize,
@@ -126,8 +126,7 @@ fn join_part<S: Sign>(
 }
 
 // Row a += or -= Product(factor, row b), from column j on. Of more columns than `row` has room for, those behind the first come first: so the
-// last call serves every row. With a third call the compiler no longer inlines this, and each row of a square system takes some 30
-// instructions more.
+// last call serves every row.
 fn join_rows<S: Sign>(
     shape: Shape,
     table: &mut [u8],
@@ -184,6 +183,7 @@ pub fn mix(shape: Shape, table: &mut [u8], r: usize, j: usize, k: usize, mask: &
 }
 
 // Check(j): 1 where the pivot's value is 0, and 0 otherwise.
+// stays: 1 or 0 is the byte that the flag opens to, as 01's Check and `check` (specs/Steps.antt) have it, and so in word_table and in solver.
 pub fn check(shape: Shape, table: &[u8], r: usize, j: usize, mask: &[u8]) -> u8
     requires shaped { Shaped shape table.now }
     requires inside { Inside shape.rows shape.columns r j }

@@ -11,7 +11,8 @@ use Rattle.verdict.specs.declared.Refusal.TheVariants.{Field, Shares, Size, Inpu
 use Rattle.verdict.specs.Told.{Line}
 use Rattle.verdict.specs.Cells.{cell}
 use Rattle.verdict.specs.Refusals.{paper}
-use Rattle.verdict.specs.Calls.{Says, Outcome, after}
+use Rattle.std.specs.Prelude.{Result, Ok, Err}
+use Rattle.verdict.specs.Calls.{Says, refuses, gives, Outcome, after, says}
 
 -- the case of a number of 01's table
 pub back : Line → Refusal
@@ -54,3 +55,16 @@ pub only : {E A L : Type 0} (says : E → Says A) (back : Says A → E) → ((e 
 only {A = A} {L = L} says back so o a b l k e d =
     let w : after (says a) l ≡ after (says b) k = e ∙ sym d in
     (sym (so a) ∙ ap (λ (u : Outcome A L). back u.says) w ∙ so b, ap (λ (u : Outcome A L). u.left) w)
+
+-- so it is with the Result that a call hands back, which `says` reads
+says_back : {A : Type 0} → Says A → Result A Refusal
+says_back (refuses l) = Err (back l)
+says_back (gives a) = Ok a
+
+back_says : {A : Type 0} (r : Result A Refusal) → says_back (says r) ≡ r
+unfolding says_back
+back_says (Ok a) = refl
+back_says (Err r) = ap Err (back-paper r)
+
+pub once_says : {A L : Type 0} → Once {E = Result A Refusal} says L
+once_says = only says says_back back_says

@@ -69,6 +69,7 @@ pub enum Refusal {
 }
 
 // A refusal as numbers: 01's number, and its detail; what the detail has not is 0.
+// stays: numbers for kinds: 01's number of a refusal, and 0 for no single share, are those of hostozaro.h and of `report_of`.
 #[derive(Clone, Copy, Debug, PartialEq, Eq)]
 pub struct Report {
     pub number: u64,
@@ -146,6 +147,7 @@ impl fmt::Display for Refusal {
 impl Error for Refusal {}
 
 // r where the test holds.
+// stays: the bool is a test's outcome, and chooses between a refusal and none.
 pub fn refuse_if(applies: bool, r: Refusal) -> Result<(), Refusal>
     ensures { told result ≡ when applies (refused (paper r)) }
 {
@@ -181,6 +183,7 @@ pub fn no3(size: u64) -> Result<(), Refusal>
 }
 
 // input table or value list of wrong length
+// stays: here and below a function for each number of 01's table, though two differ in the refusal alone: specs/Refusals names them so.
 pub fn no4(wanted: usize, length: usize) -> Result<(), Refusal>
     ensures { told result ≡ no4 wanted length }
 {
@@ -212,6 +215,7 @@ fn some_bits(s: &[u8]) -> u8
 }
 
 // The bits that some of eight bytes has, which stand sixteen apart.
+// stays: by blocks and lanes and not `all`, so that the compiler takes sixteen bytes at once (docs/SPEED.md, F16's look at the table).
 fn column_bits(s: &[u8], at: usize) -> u8
     requires { at + 113 ≤ length s.now }
     ensures { result ≡ column_bits s.now at }
@@ -389,6 +393,7 @@ pub fn buffers(
 }
 
 // 7, 14, 8, 15, 9: a step wants exactly so many draws of each tape.
+// stays: two numbers, here and in at_least: Draws is of course, which stands above.
 pub fn exactly(
     field: u64,
     wanted_mask: usize,

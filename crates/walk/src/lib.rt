@@ -24,6 +24,7 @@ pub enum Ending {
 }
 
 // Does one step where row r takes its column's pivot, on rows of w columns, and returns the number that it opened, 0 where it opens none.
+// stays: 0 where a step opens none, as step_opens and opened (specs/Act.antt) say, by which the theorems of trace go.
 pub fn perform(
     shape: Shape,
     r: usize,
@@ -69,6 +70,7 @@ pub fn perform(
 }
 
 // Does one step of the list, and returns the number that it opened, 0 where it opens none.
+// stays: the tapes, the table and the solution one by one, here and in solve, as the calls of solver and of C lend them.
 pub fn act(
     o: Order,
     s: Step,
@@ -104,8 +106,7 @@ pub fn solve(o: Order, table: &mut [u8], solution: &mut [u8], mask: &[u8], nonze
 {
     let mut p = Progress::start(o);
     let mut steps: usize = 0;
-    // stays: the loop of wide_walk::solve is much the same, but what the two walks ask, take and leave at the end are two definitions of specs/:
-    // one walk over a trait would need a ghost member for each, and laws for how they hang together, for some ten lines that it saves.
+    // stays: wide_walk::solve's twin: one walk over a trait needs a ghost member and a law for all that the two definitions differ in, to save ten lines.
     loop {
         let counts = Counts {
             steps,
@@ -135,6 +136,7 @@ pub fn solve(o: Order, table: &mut [u8], solution: &mut [u8], mask: &[u8], nonze
 }
 
 // Shares 2..n are draws, in order.
+// stays: by the index, as in table::join.
 fn draw_shares(f: u64, e: &mut [u8], mask: &[u8])
     requires { length e.old ≤ length mask.now }
     ensures { e.new ≡ tab (length e.old) (draw_at (field_of f) mask.now) }

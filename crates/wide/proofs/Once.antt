@@ -8,37 +8,24 @@ use Rattle.walk.specs.Act.{Held}
 use Rattle.pattern.specs.declared.WideProgress.{WideProgress}
 use Rattle.wide_walk.specs.declared.WideEnding.{WideEnding}
 use Rattle.verdict.specs.declared.Refusal.{Refusal}
-use Rattle.verdict.specs.Calls.{Says, refuses, gives, Outcome, after, Nothing}
-use Rattle.verdict.specs.Code.Verdicts.{says}
-use Rattle.verdict.proofs.Once.{back, back-paper, Once, only}
+use Rattle.verdict.specs.Calls.{Says, refuses, gives, Outcome, after, Nothing, says}
+use Rattle.verdict.proofs.Once.{back, back-paper, Once, once_says}
 use Rattle.wide.specs.declared.WideStride.{WideStride}
 use Rattle.wide.specs.declared.WideStepped.{WideStepped}
 use Rattle.wide.specs.WideCalls.{step_says, left_by, Lent, lent}
 
-says_back : {A : Type 0} → Says A → Result A Refusal
-says_back (refuses l) = Err (back l)
-says_back (gives a) = Ok a
-
-back_says : {A : Type 0} (s : Result A Refusal) → says_back (says s) ≡ s
-unfolding says_back
-back_says (Ok a) = refl
-back_says (Err r) = ap Err (back-paper r)
-
-once_lem : {A L : Type 0} → Once {E = Result A Refusal} says L
-once_lem = only says says_back back_says
-
 -- so of Start, of the counts and of Wanted, of Solve and of Step, each with what it is lent
 pub start_once : Once {E = Result WideProgress Refusal} says Nothing
-start_once = once_lem
+start_once = once_says
 
 pub counts_once : Once {E = Result Draws Refusal} says Nothing
-counts_once = once_lem
+counts_once = once_says
 
 pub solve_once : Once {E = Result WideEnding Refusal} says Held
-solve_once = once_lem
+solve_once = once_says
 
 pub step_once : Once {E = Result WideStride Refusal} says Lent
-step_once = once_lem
+step_once = once_says
 
 -- and of Step on a record by value, of which a refusal leaves nothing to say
 module _ (p : WideProgress) where

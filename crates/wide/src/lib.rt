@@ -1,7 +1,7 @@
 // The wide calls (R-8): start, step, solve, the lengths that a solve wants, and the draws that a record's step wants. Stands on wide_walk.
 // Each takes any numbers, tables and tapes, does all its own checking, and promises by one equation its answer and every lent byte, refusals
 // included.
-// stays: solver's twin, since README names both crates' calls, and theorems R-8's definitions and 01's (specs/WideCalls.antt, solver's specs/Calls.antt).
+// stays: solver's twin: R-8's calls and 01's are two sets of definitions (specs/WideCalls.antt, solver's specs/Calls.antt), whose theorems stay.
 #![tactic(auto)]
 
 mod checks;
@@ -9,14 +9,13 @@ mod checks;
 ghost use Rattle.std.specs.Prelude.{◌≡◌};
 ghost use Rattle.course.specs.StepList.{revealed_by};
 ghost use Rattle.walk.specs.Act.{held};
-ghost use Rattle.verdict.specs.Calls.{after};
-ghost use Rattle.verdict.specs.Code.Verdicts.{says};
+ghost use Rattle.verdict.specs.Calls.{after, says};
 ghost use Rattle.wide.specs.WideCalls.{order, start_call, counts_call, wanted_call, solve_call, TellsIn, step_says, left_by, step_call, tells, lent};
 
 use course::{Draws, Step};
 use pattern::{WideOrder, WidePlace, WideProgress};
-use verdict::Refusal;
-use wide_walk::WideEnding;
+pub use verdict::Refusal;
+pub use wide_walk::WideEnding;
 
 // What a step tells. Opened and Done carry the column and its unknown.
 #[derive(Clone, Copy, Debug, PartialEq, Eq)]

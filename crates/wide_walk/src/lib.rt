@@ -22,6 +22,7 @@ pub enum WideEnding {
 }
 
 // Does one step, on the row that the pivots give it, and returns the number that it opened, 0 where it opens none.
+// stays: as walk::act: 0 where a step opens none, and what is lent one by one; o, v and s apart, as the definitions (specs/WideWalk.antt) take them.
 pub fn act(
     o: WideOrder,
     v: Pivots,
@@ -49,6 +50,7 @@ pub fn act(
 }
 
 // The whole solve: the unknowns of columns that are passed over, and on short all of them, are 0 from the start.
+// stays: the twin of walk::solve, for the reason that stands there.
 pub fn solve(
     o: WideOrder,
     table: &mut [u8],

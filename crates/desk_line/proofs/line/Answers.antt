@@ -3,8 +3,8 @@
 use mathlib.Core.Path.{sym, ap, ◌∙◌}
 use Rattle.std.specs.Prelude.{Result}
 use Rattle.course.specs.declared.Counts.{Counts}
+use Rattle.verdict.specs.Calls.{says}
 use Rattle.verdict.specs.declared.Refusal.{Refusal}
-use Rattle.verdict.specs.Code.Verdicts.{says}
 use Rattle.desk_line.specs.Line.{refused_line, line_of}
 use Rattle.desk_line.proofs.Written.{made_as, made_within}
 use Rattle.desk_line.proofs.Lines.{not_four, answered}

@@ -9,8 +9,7 @@ use Rattle.course.specs.declared.Place.TheVariants.{At, Stopped, Done}
 use Rattle.course.specs.declared.Progress.{Progress}
 use Rattle.walk.specs.Act.{Held}
 use Rattle.verdict.specs.Told.{Line}
-use Rattle.verdict.specs.Calls.{refuses, Outcome}
-use Rattle.verdict.specs.Code.Verdicts.{says}
+use Rattle.verdict.specs.Calls.{refuses, Outcome, says}
 use Rattle.verdict.proofs.Calls.{outcome_holds}
 use Rattle.solver.specs.declared.Stride.{Stride}
 use Rattle.solver.specs.Calls.{Lent, step_does, step_call}
