@@ -2,7 +2,7 @@
 // steps draw by the pattern of the pivots. Stands on course, for the steps and their costs.
 #![tactic(auto)]
 
-ghost use Rattle.std.specs.Prelude.{◌≡◌, true, ◌+◌, ◌-◌, ◌*◌, ◌≤◌, ◌<◌, eqb, get_or};
+ghost use Rattle.std.specs.Prelude.{◌≡◌, true, ◌+◌, ◌-◌, ◌*◌, ◌≤◌, ◌<◌, eqb, get_or, length};
 ghost use Rattle.sharing.specs.Bounds.{most_rows, most_columns, most_draws};
 ghost use Rattle.table.specs.Costs.{check_cost, scale_cost, open_cost};
 ghost use Rattle.course.specs.StepList.{column_of};
@@ -73,6 +73,18 @@ fn is_zeros(s: &[u8]) -> bool
     s.iter().all(|x| *x == 0)
 }
 
+// How many pivots stand before column j.
+// stays: a count of its own: by `filter` and `count` it is no loop of vectors, and each step of a whole wide solve takes some 150 instructions more.
+fn count_before(ps: &[u8], j: u64) -> usize
+    ensures { (result ≡ before ps.now j) × (result ≤ length ps.now) }
+{
+    let mut k: usize = 0;
+    for p in ps {
+        k += usize::from(u64::from(*p) < j);
+    }
+    k
+}
+
 impl Pivots {
     // The columns of the pivots found.
     fn listed(&self) -> &[u8]
@@ -91,12 +103,12 @@ impl Pivots {
     }
 
     // How many stand before column j.
-    #[tactic(auto, using(crate::proofs::Loops::count_before, crate::proofs::Ascending::before_few, crate::proofs::Slots::used))]
+    #[tactic(auto, using(crate::proofs::Slots::used))]
     pub fn before(self, j: u64) -> usize
         requires { self.found ≤ most_rows }
         ensures { (result ≡ before (listed self) j) × (result ≤ self.found) }
     {
-        self.listed().iter().filter(|p| u64::from(**p) < j).count()
+        count_before(self.listed(), j)
     }
 
     // The last one, or 0.
