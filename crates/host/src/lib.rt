@@ -60,7 +60,7 @@ pub extern "C" fn hz_step(
             words::write(record_words, s.next);
             replies::say(answer, s.told.reply())
         }
-        Err(r) => replies::say(answer, r.reply()),
+        Err(r) => replies::say(answer, r.reply()), // with the record's words as found
     }
 }
 
@@ -272,7 +272,7 @@ pub extern "C" fn hz_wide_step(
             words::write_wide(record_words, s.next);
             replies::say(answer, s.told.reply())
         }
-        Err(r) => replies::say(answer, r.reply()),
+        Err(r) => replies::say(answer, r.reply()), // with the wide record's words as found
     }
 }
 
