@@ -106,15 +106,27 @@ compiler_name() {
     "$(kit_compiler)" --version 2>/dev/null | head -n 1
 }
 
+# In the module an address is a number of 64 bits, and a pointer behind a byte lies 8 bytes behind it. Where addresses have 32 bits, the word that takes
+# one as a number is ptrtoint, which fills it up with zeros; and such a pair is read from memory part by part, since a whole one would be read as
+# that machine lays it out, with the pointer 4 bytes behind the byte.
+narrow_address='s/= ptrtoaddr ptr \(%[^ ]*\) to i64$/= ptrtoint ptr \1 to i64/'
+narrow_pair='s/^  \(%[^ ]*\) = load { i8, ptr }, ptr \(%[^ ,]*\), align 8.*$/  \1.tag = load i8, ptr \2, align 8\n  \1.place = getelementptr i8, ptr \2, i64 8\n  \1.pointer = load ptr, ptr \1.place, align 8\n  \1.half = insertvalue { i8, ptr } poison, i8 \1.tag, 0\n  \1 = insertvalue { i8, ptr } \1.half, ptr \1.pointer, 1/'
+
 # The module for a machine, as text. It names x86-64 in three ways: its triple, its data layout and its processor. A length has 64 bits in it; where
 # size_t has 32 its calls get other names, and build/face is between them and the header's.
 module_for() { # TARGET LAYOUT FOLDER
     text=$3/module.ll layout=$(echo "$2" | sed -n '/^target datalayout/p') triple=$(echo "$2" | sed -n '/^target triple/p')
     set -- "$1" -e "s|^target datalayout = .*|$layout|" -e "s|^target triple = .*|$triple|" -e '/^attributes /s/ "target-cpu"="[^"]*"//'
     # Attribute 28 is how numbers of floating point are handed over. None are: 3 suits every program.
-    [ "$1" != cortex-m4 ] || set -- "$@" -e 's/@\(hz_[a-z_]*\)(/@\1_64(/' -e '/^target triple/a module asm ".eabi_attribute 28, 3"'
+    [ "$1" != cortex-m4 ] || set -- "$@" -e 's/@\(hz_[a-z_]*\)(/@\1_64(/' -e '/^target triple/a module asm ".eabi_attribute 28, 3"' \
+        -e "$narrow_address" -e "$narrow_pair"
     shift
     "$(kit_compiler)" -x ir "$module" -S -emit-llvm -Xclang -disable-llvm-passes -o "$text.x86_64" && sed "$@" "$text.x86_64" >"$text"
+}
+
+# Whether no value with a pointer in it is kept in memory as a whole, but for a pointer and a number of 64 bits, which lie alike on all machines.
+is_laid_out_alike() { # TEXT
+    ! grep -oE '(load|store|alloca) [{][^}]*ptr[^}]*[}]' "$1" | grep -qvE ' [{] (ptr, i64|i64, ptr) [}]$'
 }
 
 # Compiles it by the kit's own words for x86-64, but for those that name the machine.
@@ -145,7 +157,12 @@ make_target() { # TARGET FOLDER
         return 1
     fi
     rm -rf "$2"
-    mkdir -p "$2" && module_for "$1" "$layout" "$2" && compile_for "$1" "$2" && set -- "$1" "$2" "$2/hostozaro.o" || return
+    mkdir -p "$2" && module_for "$1" "$layout" "$2" || return
+    if [ "$1" = cortex-m4 ] && ! is_laid_out_alike "$2/module.ll"; then
+        echo "a value in the module would lie otherwise where pointers have 4 bytes: build/target.sh knows of no way to read it" >&2
+        return 1
+    fi
+    compile_for "$1" "$2" && set -- "$1" "$2" "$2/hostozaro.o" || return
     if [ "$1" = cortex-m4 ]; then
         # shellcheck disable=SC2046
         "$tools/clang" $(machine_words "$1") -O3 -Wall -Wextra -Werror -ffreestanding -ffunction-sections -nostdinc -Ibuild/face -Iinclude -c build/face/face.c \

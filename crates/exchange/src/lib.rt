@@ -76,7 +76,8 @@ fn fill(s: System, table: &[u8], target: &mut [u8])
 {
     let end = 16 + s.length;
     target[..16].copy_from_slice(&s.header());
-    target[16..end].copy_from_slice(table);
+    // stays: by sharing's loop: copy_from_slice of two lent slices is memmove, which no other call of the archive for C asks of its host
+    sharing::copy_into(&mut target[16..end], table);
     target[end..].copy_from_slice(&[255, 0, 0]);
 }
 

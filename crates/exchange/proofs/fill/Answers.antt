@@ -12,6 +12,6 @@ returns c =
     let s = c.args.s in
     let t = c.args.table.now in
     let long : length t ≡ s.length = c.requires.target_len.0 in
-    rw (c.copy_from_slice-3.ensures.after, c.copy_from_slice-2.ensures.after, c.copy_from_slice.ensures.after, c.header.ensures)
+    rw (c.copy_from_slice-2.ensures.after, c.copy_into.ensures, c.copy_from_slice.ensures.after, c.header.ensures)
     (copied (header_of s.field s.shares s.size s.length) t (255 ∷ 0 ∷ 0 ∷ []) c.args.target.now s.length (header_length s.field s.shares s.size _) long
     ∙ sym (rw long at (parts s.field s.shares s.size t)))
