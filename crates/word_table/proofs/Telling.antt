@@ -15,7 +15,6 @@ use Rattle.sharing.specs.Run.{pairs}
 use Rattle.word.specs.Rows.{words_of}
 use Rattle.plane.proofs.Choosing.{Taken}
 use Rattle.table.specs.declared.Shape.{Shape}
-use Rattle.word_table.specs.declared.Workspace.{Workspace}
 use Rattle.word_table.specs.Table.{row_words, Room, Told, by_all, by_one}
 
 field_widths : (b : Bool) → (1 ≤ pick b 4 8) × (pick b 4 8 ≤ 8)
@@ -47,20 +46,20 @@ module _ (n w columns : ℕ) (l : columns ≤ w) where
   pub row_fewer : words_of columns * n ≤ row_words n w
   row_fewer = mul-le-mul_right n words_fewer
 
-module _ (s : Shape) (columns : ℕ) (l : columns ≤ s.columns) {lent : Workspace} (R : Room s lent) where
+module _ (s : Shape) (columns : ℕ) (l : columns ≤ s.columns) {other draws products masks : List ℕ} (R : Room s other draws products masks) where
   few : words_of columns ≤ words_of s.columns
   few = words_fewer s.shares s.columns columns l
 
-  pub draws_room : words_of columns * pairs s.shares ≤ length lent.draws.now
+  pub draws_room : words_of columns * pairs s.shares ≤ length draws
   draws_room = omega (arith, mul-le-mul_right (pairs s.shares) few, R.for_draws)
 
-  pub products_room : words_of columns * s.shares * s.shares ≤ length lent.products.now
+  pub products_room : words_of columns * s.shares * s.shares ≤ length products
   products_room = omega (arith, mul_assoc (words_of columns) s.shares s.shares, mul-le-mul_right (s.shares * s.shares) few, R.for_products)
 
   module _ {b : ℕ} (h : b ≤ 8) where
-    pub other_room : words_of columns * s.shares * b ≤ length lent.other.now
+    pub other_room : words_of columns * s.shares * b ≤ length other
     other_room =
         omega (arith, mul-le-mul {n₁ = words_of columns * s.shares} {m₁ = b} {n₂ = row_words s.shares s.columns} {m₂ = 8} (row_fewer s.shares s.columns columns l) h, R.for_other)
 
-    pub masks_room : s.shares * b ≤ length lent.masks.now
+    pub masks_room : s.shares * b ≤ length masks
     masks_room = omega (arith, mul-le-mul {n₁ = s.shares} {m₁ = b} {n₂ = s.shares} {m₂ = 8} (omega arith) h, R.for_masks)

@@ -1,13 +1,12 @@
 -- A table in words: its rows one after another, each as crate word has it. What it stands for is a table of bytes as 01 lays it out.
 -- Assumes nothing.
-use Rattle.std.specs.Prelude.{ℕ, zero, suc, ◌-◌, ◌*◌, ◌≤◌, ◌≡◌, List, [], ◌++◌, length, take, drop}
+use Rattle.std.specs.Prelude.{ℕ, zero, suc, ◌-◌, ◌*◌, ◌≤◌, List, [], ◌++◌, length, take, drop}
 use Rattle.field.specs.Field.{bits}
 use Rattle.sharing.specs.Run.{pairs}
 use Rattle.sharing.specs.Lists.{Below}
 use Rattle.table.specs.Layout.{part, Bounded}
 use Rattle.table.specs.declared.Shape.{Shape}
 use Rattle.word.specs.Rows.{words_of, bytes_of}
-use Rattle.word_table.specs.declared.Workspace.{Workspace}
 
 -- the words of a row of w columns
 abbrev pub row_words : ℕ → ℕ → ℕ
@@ -32,12 +31,11 @@ unfoldable pub row_at : ℕ → ℕ → ℕ → List ℕ → List ℕ
 row_at n w r words = part (row_words n w) ((r - 1) * row_words n w) words
 
 -- what the steps are lent to work in
-pub record Room (s : Shape) (lent : Workspace) : Type 0 where
-  pub for_other : row_words s.shares s.columns * 8 ≤ length lent.other.now
-  pub for_draws : words_of s.columns * pairs s.shares ≤ length lent.draws.now
-  pub for_products : words_of s.columns * (s.shares * s.shares) ≤ length lent.products.now
-  pub for_masks : s.shares * 8 ≤ length lent.masks.now
-  pub none_hidden : lent.hidden ≡ 0
+pub record Room (s : Shape) (other draws products masks : List ℕ) : Type 0 where
+  pub for_other : row_words s.shares s.columns * 8 ≤ length other
+  pub for_draws : words_of s.columns * pairs s.shares ≤ length draws
+  pub for_products : words_of s.columns * (s.shares * s.shares) ≤ length products
+  pub for_masks : s.shares * 8 ≤ length masks
 
 -- a factor that so many bits tell: any factor by all bits of an element, and one whose shares are 0 or 1 by one bit
 pub data Told (f : ℕ) (factor : List ℕ) : ℕ → Type 0 where

@@ -104,14 +104,14 @@ pub fn check(shape: Shape, words: &[u64], r: usize, j: usize, mask: &[u8]) -> u8
     sharing::opening(f, &mut flag[..n], &mask[d..])
 }
 
-// What the steps are lent to work in. hidden is 0 in a way that the compiler does not see through.
+// What Mix and Clear are lent to work in. hidden is 0 in a way that the compiler does not see through.
 #[derive(Drop)]
-pub struct Workspace<'a> {
-    pub other: &'a mut [u64],
-    pub draws: &'a mut [u64],
-    pub products: &'a mut [u64],
-    pub masks: &'a mut [u64],
-    pub hidden: u64,
+struct Workspace<'a> {
+    other: &'a mut [u64],
+    draws: &'a mut [u64],
+    products: &'a mut [u64],
+    masks: &'a mut [u64],
+    hidden: u64,
 }
 
 // Row a += Product(factor, row b), from column j on, where BITS bits tell the factor.
@@ -128,7 +128,7 @@ fn join_rows<const BITS: usize>(
     requires worded { Worded shape words.old }
     requires inside { Inside shape.rows shape.columns a j × Inside shape.rows shape.columns b j }
     requires draws { (length factor.now ≡ shape.shares) × (columns_from shape.columns j * pairs shape.shares ≤ length mask.now) }
-    requires room { Room shape lent × Told shape.field factor.now BITS }
+    requires room { Room shape lent.other.now lent.draws.now lent.products.now lent.masks.now × (lent.hidden ≡ 0) × Told shape.field factor.now BITS }
     requires below { Below (field_of shape.field).q (table_in shape words.old) }
     ensures { table_in shape words.new ≡ join_rows (field_of shape.field) false shape.shares shape.columns a b j factor.now mask.now (table_in shape words.old) }
 {
@@ -154,6 +154,7 @@ fn join_rows<const BITS: usize>(
 }
 
 // Mix(j,k), where row r takes column j's pivot. The flag's shares are 0 or 1, so one bit tells them.
+// stays: the room in slices, here and in clear: a caller that lends the same ones to two steps can't put them into a Workspace twice (tried).
 pub fn mix(
     shape: Shape,
     words: &mut [u64],
@@ -161,12 +162,16 @@ pub fn mix(
     j: usize,
     k: usize,
     mask: &[u8],
-    lent: Workspace<'_>,
+    other: &mut [u64],
+    draws: &mut [u64],
+    products: &mut [u64],
+    masks: &mut [u64],
+    hidden: u64,
 )
     requires worded { Worded shape words.old }
     requires inside { Inside shape.rows shape.columns r j × Inside shape.rows shape.columns k j }
     requires draws { mix_cost shape.field shape.shares (columns_from shape.columns j) ≤ length mask.now }
-    requires room { Room shape lent }
+    requires room { Room shape other.old draws.old products.old masks.old × (hidden ≡ 0) }
     requires below { Below (field_of shape.field).q (table_in shape words.old) }
     ensures { table_in shape words.new ≡ mix shape.field shape.shares shape.columns r j k mask.now (table_in shape words.old) }
 {
@@ -175,6 +180,13 @@ pub fn mix(
     let d = flag::flag_draws(f, n);
     let mut flag = [0u8; 4];
     pivot_flag(shape, words, r, j, &mut flag[..n], mask);
+    let lent = Workspace {
+        other,
+        draws,
+        products,
+        masks,
+        hidden,
+    };
     join_rows::<1>(shape, words, &flag[..n], r, k, j, &mask[d..], lent);
 }
 
@@ -186,12 +198,16 @@ pub fn clear(
     j: usize,
     k: usize,
     mask: &[u8],
-    lent: Workspace<'_>,
+    other: &mut [u64],
+    draws: &mut [u64],
+    products: &mut [u64],
+    masks: &mut [u64],
+    hidden: u64,
 )
     requires worded { Worded shape words.old }
     requires inside { Inside shape.rows shape.columns r j × Inside shape.rows shape.columns k j }
     requires draws { clear_cost shape.shares (columns_from shape.columns j) ≤ length mask.now }
-    requires room { Room shape lent }
+    requires room { Room shape other.old draws.old products.old masks.old × (hidden ≡ 0) }
     requires below { Below (field_of shape.field).q (table_in shape words.old) }
     ensures { table_in shape words.new ≡ clear shape.field shape.shares shape.columns r j k mask.now (table_in shape words.old) }
 {
@@ -199,11 +215,17 @@ pub fn clear(
     let mut copy = [0u8; 4];
     entry(shape, words, k, j, &mut copy[..n]);
     let factor = &copy[..n];
-    let room = lent;
+    let lent = Workspace {
+        other,
+        draws,
+        products,
+        masks,
+        hidden,
+    };
     if shape.field == 16 {
-        join_rows::<4>(shape, words, factor, k, r, j, mask, room);
+        join_rows::<4>(shape, words, factor, k, r, j, mask, lent);
     } else {
-        join_rows::<8>(shape, words, factor, k, r, j, mask, room);
+        join_rows::<8>(shape, words, factor, k, r, j, mask, lent);
     }
 }
 

@@ -29,7 +29,7 @@ join_rows-requires c =
     let s = c.args.shape in
     let copied : length c.entry.new.out ≡ s.shares = c.entry.auto.out ∙ length-take-le _ _ (omega arith) in
     rw (take_at _ _ _ copied)
-    (record { worded = q.worded; inside = (q.inside.1, q.inside.0); draws = (copied, q.draws); room = ((let r = q.room in record { for_other = r.for_other; for_draws = r.for_draws; for_products = r.for_products; for_masks = r.for_masks; none_hidden = r.none_hidden }), told_16 s.field _ c.if-shape-eq16.true); below = q.below })
+    (record { worded = q.worded; inside = (q.inside.1, q.inside.0); draws = (copied, q.draws); room = (q.room.0, q.room.1, told_16 s.field _ c.if-shape-eq16.true); below = q.below })
 
 pub join_rows-requires-else-shape-eq16 : goal.join_rows-requires-else-shape-eq16
 unfolding clear_cost
@@ -38,7 +38,7 @@ join_rows-requires-else-shape-eq16 c =
     let s = c.args.shape in
     let copied : length c.entry.new.out ≡ s.shares = c.entry.auto.out ∙ length-take-le _ _ (omega arith) in
     rw (take_at _ _ _ copied)
-    (record { worded = q.worded; inside = (q.inside.1, q.inside.0); draws = (copied, q.draws); room = ((let r = q.room in record { for_other = r.for_other; for_draws = r.for_draws; for_products = r.for_products; for_masks = r.for_masks; none_hidden = r.none_hidden }), told_256 s.field _ c.if-shape-eq16.false); below = q.below })
+    (record { worded = q.worded; inside = (q.inside.1, q.inside.0); draws = (copied, q.draws); room = (q.room.0, q.room.1, told_256 s.field _ c.if-shape-eq16.false); below = q.below })
 
 pub returns-then-shape-eq16 : goal.returns-then-shape-eq16
 unfolding clear

@@ -16,8 +16,8 @@ pub masks_of-requires : goal.masks_of-requires
 masks_of-requires g c =
     let x = c.args in
     let q = c.requires in
-    let t = told_between q.room.1 in (
-      omega (arith, q.room.0.none_hidden),
+    let t = told_between q.room.2 in (
+      omega (arith, q.room.1),
       t.1,
       rw q.draws.0 q.worded.bounded.fits.shares_high,
       rw q.draws.0 (masks_room x.shape (columns_from x.shape.columns x.j) (some q.inside.0).1 q.room.0 t.1),
@@ -28,7 +28,7 @@ prepare-requires g c =
     let x = c.args in
     let q = c.requires in
     let b = q.worded.bounded in
-    let t = told_between q.room.1 in
+    let t = told_between q.room.2 in
     let s = some q.inside.0 in
     let k = columns_from x.shape.columns x.j in
     let z = c.row_words-size in
@@ -65,10 +65,10 @@ join-requires g c =
     let s = some q.inside.0 in
     let k = columns_from x.shape.columns x.j in
     let z = c.row_words-size in
-    let h = (told_between q.room.1).1 in (
+    let h = (told_between q.room.2).1 in (
       b.shares_low,
       b.fits.shares_high,
-      q.room.0.none_hidden,
+      q.room.1,
       rw (lent_length z.result ((x.a - 1) * z.result) x.words.now (row_within x.shape z.ensures.0 q.worded.room q.inside.0))
           (omega (arith, z.ensures.0, row_fewer x.shape.shares x.shape.columns k s.1)),
       omega (arith, c.prepare.auto.other, other_room x.shape k s.1 q.room.0 h),
@@ -86,4 +86,4 @@ returns g c =
     joined-lent s.field s.shares s.columns s.rows x.words.now q.inside.0 q.inside.1 q.worded.room q.below
     g.row.BITS z.result x.mask.now x.factor.now _ _ _ _ z.ensures.0
     (c.join.auto.row ∙ lent_length z.result ((x.a - 1) * z.result) x.words.now (row_within s z.ensures.0 q.worded.room q.inside.0))
-    q.draws.0 q.room.1 (rw q.draws.0 at c.masks_of.ensures) c.prepare.ensures (rw c.pair_count.ensures at c.deal.ensures) c.join.ensures
+    q.draws.0 q.room.2 (rw q.draws.0 at c.masks_of.ensures) c.prepare.ensures (rw c.pair_count.ensures at c.deal.ensures) c.join.ensures

@@ -38,7 +38,7 @@ join_rows-requires c =
       worded = c.requires.worded;
       inside = c.requires.inside;
       draws = (flagged, rest_room _ _ x.mask.now room);
-      room = ((let r = c.requires.room in record { for_other = r.for_other; for_draws = r.for_draws; for_products = r.for_products; for_masks = r.for_masks; none_hidden = r.none_hidden }), by_one (rw c.pivot_flag.ensures (flag_bits s.field x.mask.now _)));
+      room = (c.requires.room.0, c.requires.room.1, by_one (rw c.pivot_flag.ensures (flag_bits s.field x.mask.now _)));
       below = c.requires.below;
     })
 
