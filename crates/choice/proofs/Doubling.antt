@@ -39,7 +39,7 @@ doubled-sum_256 = plus (after (low 8) (shifted 1)) (after (lowest_times 27) (hig
 abbrev pub high_16 : ℕ → ℕ
 high_16 x = bit_and (x / 8) 72340172838076673
 
-abbrev word_16 : ℕ → ℕ
+abbrev pub word_16 : ℕ → ℕ
 word_16 x =
     bit_xor (bit_xor (bit_and x 506381209866536711 * 2 ^ 1 % 18446744073709551616) (high_16 x))
     (high_16 x * 2 ^ 1 % 18446744073709551616)
@@ -52,7 +52,7 @@ word-sum_16 =
 abbrev pub high_256 : ℕ → ℕ
 high_256 x = bit_and (x / 128) 72340172838076673
 
-abbrev word_256 : ℕ → ℕ
+abbrev pub word_256 : ℕ → ℕ
 word_256 x =
     bit_xor
     (bit_xor

@@ -5,7 +5,7 @@
 #![tactic(auto)]
 
 use course::{Place, Progress, Step};
-use solver::Stride;
+use solver::{Stepped, Stride};
 use std::io;
 use verdict::Refusal;
 
@@ -68,13 +68,10 @@ fn by_lent(h: Host, mask: &[u8], nonzero: &[u8]) -> Words {
 }
 
 // By value a refusal gives no record: the caller's is as it was.
-fn by_value(h: Host, mask: &[u8], nonzero: &[u8]) -> Words {
-    let mut table = h.table;
-    let mut solution = h.solution;
-    let a = solver::step(h.record, &mut table, &mut solution, mask, nonzero);
+fn given(p: Progress, a: Result<Stepped, Refusal>, table: [u8; 12], solution: [u8; 2]) -> Words {
     let record = match a {
         Ok(s) => s.next,
-        Err(_) => h.record,
+        Err(_) => p,
     };
     Words {
         answer: a.map(|s| s.told),
@@ -86,16 +83,34 @@ fn by_value(h: Host, mask: &[u8], nonzero: &[u8]) -> Words {
     }
 }
 
+fn by_value(h: Host, mask: &[u8], nonzero: &[u8]) -> Words {
+    let mut table = h.table;
+    let mut solution = h.solution;
+    let a = solver::step(h.record, &mut table, &mut solution, mask, nonzero);
+    given(h.record, a, table, solution)
+}
+
+// By value through the lent form.
+fn by_stepped(h: Host, mask: &[u8], nonzero: &[u8]) -> Words {
+    let mut table = h.table;
+    let mut solution = h.solution;
+    let a = lent::stepped(h.record, &mut table, &mut solution, mask, nonzero);
+    given(h.record, a, table, solution)
+}
+
 // One call in each form, and its line.
 fn lend(out: &impl Print, b: Both, mask: &[u8], nonzero: &[u8]) -> io::Result<Both> {
     let g = by_lent(b.lent, mask, nonzero);
     let h = by_value(b.value, mask, nonzero);
+    let k = by_stepped(b.value, mask, nonzero);
     print_told(out, g)?;
-    if g == h {
+    if g == h && h == k {
         print!(out; " | same by value\n")?;
     } else {
         print!(out; " | by value: ")?;
         print_told(out, h)?;
+        print!(out; " | through the lent form: ")?;
+        print_told(out, k)?;
         print!(out; "\n")?;
     }
     Ok(Both {
