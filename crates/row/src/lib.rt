@@ -106,6 +106,8 @@ fn spread_column<const N: usize>(span: usize, c: &mut [u8], a: usize, z: &[u8], 
 }
 
 // stays: the number of a turn gives places at several steps, here, in the products and in gather, so that no one slice is gone through.
+// inline, as products: where the compiler has no vectors it made one function of these for both fields, and looked at the number of bits in each turn.
+#[inline]
 fn spread<const N: usize>(columns: usize, span: usize, c: &mut [u8], z: &[u8])
     requires { (2 ≤ N) × (N ≤ 4) × (columns * N ≤ span) × (span ≤ row_room) × (N * span ≤ length c.old) × (columns * pairs N ≤ length z.now) }
     ensures { c.new ≡ spread_all N columns span z.now c.old }
@@ -168,6 +170,7 @@ fn product_block<const N: usize, const BLOCK: usize>(
     }
 }
 
+#[inline]
 fn products<const N: usize, const BLOCK: usize>(
     bits: usize,
     blocks: usize,
