@@ -132,9 +132,11 @@ module_for() { # TARGET LAYOUT FOLDER
 # Whether all that the module keeps in memory lies alike on a machine with pointers of 4 bytes: pointers, numbers and bytes, each by itself, and pairs
 # whose second part is 8 bytes behind the first, or a byte behind a byte. Places are told in bytes, and constants are bytes.
 is_laid_out_alike() { # TEXT
+    [ -s "$1" ] || return
     ! grep -E '(^@|[ (](load|store|alloca|getelementptr|sret|byval)[ (])' "$1" |
         grep -qvE -e ' (load|store|alloca) (ptr|i8|i16|i32|i64|[[][0-9]+ x i8[]]|[{] (ptr, i64|i64, ptr|i(8|64), i(8|64)) [}])[ ,]' \
-            -e ' getelementptr (inbounds nuw )?i8, ' -e '^@[^ ]* = .* constant [[][0-9]+ x i8[]] '
+            -e ' getelementptr (inbounds nuw )?i8, ' -e '^@[^ ]* = .* constant [[][0-9]+ x i8[]] ' || return
+    ! grep getelementptr "$1" | grep -qvE ' getelementptr (inbounds nuw )?i8, '
 }
 
 # Compiles it by the kit's own words for x86-64, but for those that name the machine.
