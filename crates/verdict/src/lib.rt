@@ -281,6 +281,7 @@ fn cell_in(width: usize, entry: usize, share: u64) -> Cell
 }
 
 // The cell of the byte at a place, from 0.
+#[inline(always)]
 fn cell_at(rows: Rows, place: usize) -> Cell
     requires non_empty { NonEmpty rows }
     requires place_bound { place < 18446744073709551615 }
@@ -296,14 +297,16 @@ fn cell_at(rows: Rows, place: usize) -> Cell
     }
 }
 
-// entry 16 or more in F16
+// entry 16 or more in F16. In line, as cell_at is, and with the place seen to be below the length: so a caller's row and column are worked out with
+// numbers that the compiler knows to be small, and a board's archive asks for no division of 64 bits.
+#[inline(always)]
 pub fn no6(f: u64, rows: Rows, input: &[u8]) -> Result<(), Refusal>
     requires { NonEmpty rows }
     ensures { told result ≡ no6 f rows input.now }
 {
     match first_too_large(f, input) {
-        Some(place) => Err(Refusal::Entry(cell_at(rows, place))),
-        None => Ok(()),
+        Some(place) if place < input.len() => Err(Refusal::Entry(cell_at(rows, place))),
+        _ => Ok(()),
     }
 }
 

@@ -11,6 +11,6 @@ returns-in-Some c =
     let w = found (too_large c.args.f) c.args.input.now c.in-Some.place (sym c.first_too_large.ensures ∙ c.in-Some.is) in
     rw (w.0, w.1, c.cell_at.ensures)
 
-pub returns-in-None : goal.returns-in-None
+pub returns-in_default-2 : goal.returns-in_default-2
 unfolding no6
-returns-in-None c = rw (unfound (too_large c.args.f) c.args.input.now (sym c.first_too_large.ensures ∙ c.in-None.is))
+returns-in_default-2 c = rw (unfound (too_large c.args.f) c.args.input.now (sym c.first_too_large.ensures ∙ c.in_default.is))
