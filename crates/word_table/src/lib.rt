@@ -154,7 +154,8 @@ fn join_rows<const BITS: usize>(
 }
 
 // Mix(j,k), where row r takes column j's pivot. The flag's shares are 0 or 1, so one bit tells them.
-// stays: the room in slices, here and in clear: a caller that lends the same ones to two steps can't put them into a Workspace twice (tried).
+// stays: the room in slices, here and in clear, as a caller lends it: where the same slices go to two steps, the borrow checker refuses a Workspace that
+// is made inside each call (tried), and a caller would have to make each by a let.
 pub fn mix(
     shape: Shape,
     words: &mut [u64],
